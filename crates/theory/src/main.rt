@@ -1,0 +1,29 @@
+// The program: its words, the files of the system and its two streams go to the top call.
+#![tactic(auto)]
+
+use std::io::ErrorKind;
+use std::process::ExitCode;
+use std::{env, io};
+use theory_cli::{report_no_command, report_no_memory, theory};
+use theory_edge::{RealFiles, RealSink};
+
+fn main(rt: HostRuntime) -> ExitCode {
+    let mut files = RealFiles::new(&rt);
+    let mut out = RealSink::output(rt.stdout());
+    let mut err = RealSink::errors(rt.stderr());
+    let status = match words(&rt) {
+        Ok(words) => theory(rt.alloc(), &words, &mut files, &mut out, &mut err).status,
+        Err(e) if e.kind() == ErrorKind::OutOfMemory => report_no_memory(&mut err),
+        Err(_) => report_no_command(&mut err),
+    };
+    ExitCode::from(status as u8)
+}
+
+// The words behind the program's name.
+fn words(rt: &HostRuntime) -> io::Result<Vec<String>> {
+    let mut words = Vec::new(rt.alloc());
+    for word in env::args(rt)?.skip(1) {
+        words.push(word)?;
+    }
+    Ok(words)
+}

@@ -1,0 +1,98 @@
+ghost use Rattle.std.specs.Prelude.{◌≡◌, pos, ◌≤ℤ◌, ◌*ℤ◌, ◌≤◌, ◌^◌, unsigned_abs, ℤ, ◌<◌, MatchOption, IfSome};
+ghost use Rattle.theory_meaning.specs.Fraction.{Fraction, cross, opposite_of, whole, IsSame};
+ghost use Rattle.theory_meaning.specs.Truth.{holds};
+ghost use Rattle.theory_meaning.specs.Limits.{IsWide};
+ghost use Rattle.theory_points.specs.Parts.{parted, IsKept};
+
+use std::marker::Model;
+use theory_meaning::Rel;
+use theory_points::Frac;
+
+/// A value that is tried: its parts may pass the bound of fractions, and stay within 2^60.
+#[derive(Clone, Copy, Debug)]
+pub struct Ratio {
+    num: i64,
+    den: u64,
+}
+
+impl Model for Ratio {
+    ghost use Rattle.std.specs.Prelude.{ℕ, ◌<◌, ◌≤◌, ◌^◌, ◌+◌, unsigned_abs};
+    ghost use Rattle.std.proofs.Common.{ap};
+    ghost use Rattle.theory_meaning.specs.Fraction.{Fraction};
+    ghost use Rattle.theory_points.specs.Parts.{parted, less_and_one};
+
+    ghost Value = { Fraction };
+
+    ghost view = { λ r. parted r.num r.den };
+
+    ghost invariant = { λ r. (0 < r.den) × (unsigned_abs r.num ≤ 2 ^ 60) × (r.den ≤ 2 ^ 60) };
+
+    ghost inverse = { λ q. record { num = q.num; den = q.less + 1 } };
+
+    ghost inverse_ok = { λ a h. ap (λ (d : ℕ). record { num = a.num; den = d }) (less_and_one a.den h.0) };
+}
+
+impl Ratio {
+    /// The quotient of two numbers that are within 2^60.
+    pub fn new(num: i64, den: u64) -> Self
+        requires positive { 0 < den }
+        requires top { unsigned_abs num ≤ 2 ^ 60 }
+        requires bottom { den ≤ 2 ^ 60 }
+        ensures { result ≡ parted num den }
+    {
+        Ratio { num, den }
+    }
+
+    pub fn of_frac(frac: &Frac) -> Self
+        ensures { result ≡ frac.now }
+    {
+        Ratio::new(frac.num(), frac.den() as u64)
+    }
+
+    pub fn of_whole(num: i64) -> Self
+        requires { unsigned_abs num ≤ 2 ^ 60 }
+        ensures { result ≡ whole num }
+    {
+        Ratio::new(num, 1)
+    }
+
+    pub fn neg(&self) -> Self
+        ensures { result ≡ opposite_of self.now }
+    {
+        Ratio {
+            num: -self.num,
+            den: self.den,
+        }
+    }
+
+    /// The same number as a fraction in lowest terms, where its parts are within the bound.
+    pub fn reduced(&self) -> Option<Frac>
+        ensures value { MatchOption result (IsWide self.now) (λ f. IsSame f self.now) }
+        ensures kept { IfSome result IsKept }
+    {
+        Frac::new(self.num as i128, self.den as i128)
+    }
+
+    // The numerator over the product of both denominators, within 128 bits.
+    fn cross(&self, other: &Ratio) -> i128
+        ensures { result ≡ cross self.now other.now }
+    {
+        self.num as i128 * other.den as i128
+    }
+
+    /// Whether the relation holds between two values.
+    pub fn compares(&self, rel: Rel, other: &Ratio) -> bool
+        ensures { result ≡ holds rel self.now other.now }
+    {
+        let left = self.cross(other);
+        let right = other.cross(self);
+        match rel {
+            Rel::Eq => left == right,
+            Rel::Ne => left != right,
+            Rel::Lt => left < right,
+            Rel::Le => left <= right,
+            Rel::Gt => left > right,
+            Rel::Ge => left >= right,
+        }
+    }
+}

@@ -1,0 +1,78 @@
+ghost use Rattle.std.specs.Prelude.{◌≡◌, ◌++◌, IfOk, codes, decimal, string_bytes};
+ghost use Rattle.theory_cli.specs.Printed.{line_end};
+ghost use Rattle.theory_cli.specs.Running.{IsWritten, Reports};
+
+use crate::printing::add_number;
+use crate::running::Stop;
+use crate::status::Status;
+use std::alloc::Global;
+use theory_edge::Sink;
+use theory_points::{Bytes, NoMemory};
+
+/// Writes the line of a stop to err, and says how the run ends.
+pub fn report<E: Sink>(alloc: Global, file: &String, stop: Stop, err: &mut E) -> Status
+    ensures { Reports (string_bytes file.now) stop (E.held err.old) (E.held err.new)
+        (E.fault_count err.old) (E.fault_count err.new) result }
+{
+    match stop {
+        Stop::Refused(line) => match refusal(alloc, file, line) {
+            Ok(text) => write_line(text.as_slice(), Status::Refused, err),
+            Err(_) => report_no_memory(err),
+        },
+        Stop::Unread => match unread(alloc, file) {
+            Ok(text) => write_line(text.as_slice(), Status::Unread, err),
+            Err(_) => report_no_memory(err),
+        },
+        Stop::Unwritten => Status::Unwritten,
+        Stop::NoMemory => report_no_memory(err),
+    }
+}
+
+/// Writes that the words are no command.
+pub fn report_no_command<E: Sink>(err: &mut E) -> Status
+    ensures { IsWritten Status.NoCommand (codes "theory: these words are no command" ++ line_end)
+        (E.held err.old) (E.held err.new) (E.fault_count err.old) (E.fault_count err.new) result }
+{
+    write_line(
+        b"theory: these words are no command\n",
+        Status::NoCommand,
+        err,
+    )
+}
+
+/// Writes that memory is wanting.
+pub fn report_no_memory<E: Sink>(err: &mut E) -> Status
+    ensures { IsWritten Status.NoMemory (codes "theory: no memory" ++ line_end)
+        (E.held err.old) (E.held err.new) (E.fault_count err.old) (E.fault_count err.new) result }
+{
+    write_line(b"theory: no memory\n", Status::NoMemory, err)
+}
+
+fn write_line<E: Sink>(line: &[u8], meant: Status, err: &mut E) -> Status
+    ensures { IsWritten meant line.now (E.held err.old) (E.held err.new) (E.fault_count err.old)
+        (E.fault_count err.new) result }
+{
+    match err.write(line) {
+        Ok(()) => meant,
+        Err(_) => Status::Unwritten,
+    }
+}
+
+fn refusal(alloc: Global, file: &String, line: u32) -> Result<Bytes, NoMemory>
+    ensures { IfOk result (λ text. text ≡ string_bytes file.now ++ codes ":" ++ decimal line ++ codes ": NotYet" ++ line_end) }
+{
+    let mut text = Bytes::from_slice(alloc, file.as_bytes())?;
+    text.extend(b":")?;
+    add_number(alloc, &mut text, u64::from(line))?;
+    text.extend(b": NotYet\n")?;
+    Ok(text)
+}
+
+fn unread(alloc: Global, file: &String) -> Result<Bytes, NoMemory>
+    ensures { IfOk result (λ text. text ≡ codes "theory: cannot read " ++ string_bytes file.now ++ line_end) }
+{
+    let mut text = Bytes::from_slice(alloc, b"theory: cannot read ")?;
+    text.extend(file.as_bytes())?;
+    text.extend(b"\n")?;
+    Ok(text)
+}

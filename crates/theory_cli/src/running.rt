@@ -1,0 +1,116 @@
+ghost use Rattle.std.specs.Prelude.{◌≡◌, ◌≢◌, List, ℕ, [], map, MatchOption, string_bytes};
+ghost use Rattle.theory_cli.specs.Ending.{FilesAfter, IsCommand};
+ghost use Rattle.theory_cli.specs.Running.{IsParsed, ReadsFile, IsStop, IsRun};
+
+use crate::read::{ReadFault, read_text};
+use crate::reply::Replies;
+use crate::report::report;
+use crate::session::{Halt, reply_to};
+use crate::status::Status;
+use crate::text::Text;
+use std::alloc::Global;
+use theory_edge::{EndFault, Files, Sink};
+use theory_points::Bytes;
+
+/// Why a check of a file stops before its end.
+#[derive(Clone, Copy, Debug, PartialEq, Eq)]
+pub enum Stop {
+    /// The text is refused, as seen at this line, from 1.
+    Refused(u32),
+    /// The file can't be read.
+    Unread,
+    /// A write to out failed.
+    Unwritten,
+    /// Want of memory.
+    NoMemory,
+}
+
+/// The greatest number of bytes of a text.
+const TEXT_LIMIT: usize = 65_536;
+
+/// The file of the command, where the words are the command.
+pub fn file_of(words: &[String]) -> Option<&String>
+    ensures { MatchOption result ((file : List ℕ) → ¬ IsCommand (map string_bytes words.now) file)
+        (λ file. IsCommand (map string_bytes words.now) (string_bytes file.now)) }
+{
+    if words.len() == 2 && words[0].as_str() == "check" {
+        Some(&words[1])
+    } else {
+        None
+    }
+}
+
+/// Checks a file and reports how it stopped, if it did.
+pub fn run<F: Files, O: Sink, E: Sink>(
+    alloc: Global,
+    file: &String,
+    files: &mut F,
+    out: &mut O,
+    err: &mut E,
+    replies: &mut Replies,
+) -> Status
+    requires { replies.old ≡ [] }
+    ensures { (words : List (List ℕ)) → IsCommand words (string_bytes file.now) →
+        IsRun words (F.texts files.old)
+        record { asking = F.asking files.new; faults = F.fault_count files.new }
+        record {
+          out_before = O.fault_count out.old;
+          out_now = O.fault_count out.new;
+          err_before = E.fault_count err.old;
+          err_now = E.fault_count err.new;
+        }
+        replies.new (O.held out.old) (O.held out.new) (E.held err.old) (E.held err.new) result }
+{
+    match check(alloc, file, files, out, replies) {
+        Ok(()) => Status::Finished,
+        Err(stop) => report(alloc, file, stop, err),
+    }
+}
+
+fn check<F: Files, O: Sink>(
+    alloc: Global,
+    file: &String,
+    files: &mut F,
+    out: &mut O,
+    replies: &mut Replies,
+) -> Result<(), Stop>
+    requires { replies.old ≡ [] }
+    ensures { IsStop (F.texts files.old) (string_bytes file.now)
+        record { asking = F.asking files.new; faults = F.fault_count files.new }
+        replies.new (O.held out.old) (O.held out.new) (O.fault_count out.old) (O.fault_count out.new) result }
+{
+    let text = match read_file(alloc, file, files) {
+        Ok(text) => text,
+        Err(stop) => return Err(stop),
+    };
+    match reply_to(alloc, &text, out, replies) {
+        Ok(()) => Ok(()),
+        Err(Halt::Unwritten) => Err(Stop::Unwritten),
+        Err(Halt::NoMemory) => Err(Stop::NoMemory),
+    }
+}
+
+fn read_file<F: Files>(alloc: Global, file: &String, files: &mut F) -> Result<Text, Stop>
+    ensures { ReadsFile (F.texts files.old) (string_bytes file.now)
+        record { asking = F.asking files.new; faults = F.fault_count files.new } result }
+{
+    let name = match file.clone() {
+        Ok(name) => name,
+        Err(_) => return Err(Stop::NoMemory),
+    };
+    match files.read(alloc, name, TEXT_LIMIT) {
+        Ok(bytes) => text_of(alloc, &bytes),
+        Err(EndFault::Failed) => Err(Stop::Unread),
+        Err(EndFault::NoMemory) => Err(Stop::NoMemory),
+    }
+}
+
+fn text_of(alloc: Global, bytes: &Bytes) -> Result<Text, Stop>
+    ensures { IsParsed bytes.now result }
+{
+    match read_text(alloc, bytes.as_slice()) {
+        Ok(text) => Ok(text),
+        Err(ReadFault::NotYet(line)) => Err(Stop::Refused(line)),
+        Err(ReadFault::Memory) => Err(Stop::NoMemory),
+    }
+}

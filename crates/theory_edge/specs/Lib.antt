@@ -1,0 +1,5 @@
+pub use Rattle.theory_meaning.specs.Faults
+pub mod Files
+pub mod Memory
+pub mod Real
+pub mod Sure

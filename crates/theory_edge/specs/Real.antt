@@ -1,0 +1,19 @@
+-- What is known of the files of the system, and of a stream that is written to.
+use Rattle.std.specs.Prelude.{ℕ, List, Some, Result, Ok, Err}
+use Rattle.theory_edge.specs.declared.files.EndFault.{EndFault}
+use Rattle.theory_edge.specs.Files.{Asking, one_more, faults_after}
+
+-- how often a read has failed, and what was last asked for
+pub record RealState : Type 0 where
+  pub faults : ℕ
+  pub asked : Asking
+
+-- the files after a read of this name with this answer
+abbrev pub after_real_read : {T : Type 0} → RealState → List ℕ → Result T EndFault → RealState
+after_real_read files name answer =
+    record { faults = faults_after files.faults answer; asked = Some (name, files.faults) }
+
+-- the count of faults of a stream after a write with this answer
+abbrev pub after_real_write : {T E : Type 0} → ℕ → Result T E → ℕ
+after_real_write before (Ok _) = before
+after_real_write before (Err _) = one_more before

@@ -1,0 +1,4 @@
+pub mod WholeLaws
+pub mod OrderLaws
+pub mod ValueLaws
+pub mod VerdictLaws

@@ -1,0 +1,9 @@
+pub mod Fraction
+pub mod Limits
+pub mod Point
+pub mod Tree
+pub mod Truth
+pub mod Half
+pub mod Verdict
+pub mod Faults
+pub mod Question

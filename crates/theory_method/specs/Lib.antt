@@ -1,0 +1,6 @@
+pub mod Between
+pub mod Candidates
+pub mod Breakpoints
+pub mod WrittenHalf
+pub mod Affine
+pub mod RightHalf

@@ -1,0 +1,12 @@
+use Rattle.std.proofs.Common.{arith}
+use Rattle.std.proofs.Math.Nat.{pos_of_dvd_of_pos}
+use Rattle.std.proofs.lemmas.Nat.Gcd.{IsGcd-from_zero, IsGcd-from_mod}
+use Rattle.theory_points.proofs.frac.common_divisor.Goals as goal
+
+pub loop-y-preserved : goal.loop-y-preserved
+loop-y-preserved c g h = c.loop-y.invariant g (IsGcd-from_mod _ _ g h)
+
+pub returns : goal.returns
+returns c =
+    let gcd = c.loop-y.invariant c.loop-y.x (IsGcd-from_zero _ _ (omega arith)) in
+    record { value = gcd; positive = pos_of_dvd_of_pos gcd.1 c.requires }

@@ -1,0 +1,7 @@
+pub use Rattle.theory_meaning.specs.Fraction
+pub use Rattle.theory_meaning.specs.Limits
+pub use Rattle.theory_meaning.specs.Point
+pub use Rattle.theory_method.specs.Between
+pub mod Parts
+pub mod Changes
+pub mod Simplest

@@ -1,0 +1,2 @@
+pub use Rattle.theory_meaning.specs.Tree
+pub mod Plain

@@ -1,0 +1,14 @@
+//! Expressions, claims, lines and sentences of a model.
+//!
+//! Contracts see each value as the plain tree that it stands for: `expr_of`, `claim_of`, `claims_of`
+//! and `line_of` of `specs/Plain.antt`, in the trees of `theory_meaning`.
+#![tactic(auto)]
+
+mod claim;
+mod expr;
+mod line;
+
+pub use claim::{Claim, Claims, Sentence};
+pub use expr::Expr;
+pub use line::Line;
+pub use theory_meaning::Rel;

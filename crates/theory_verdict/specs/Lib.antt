@@ -1,0 +1,3 @@
+pub use Rattle.theory_meaning.specs.Half
+pub use Rattle.theory_meaning.specs.Verdict
+pub mod Plain

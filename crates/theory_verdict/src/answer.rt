@@ -1,0 +1,39 @@
+use crate::half::{Cause, Half};
+use theory_meaning::Verdict;
+use theory_points::{Name, Names};
+use theory_syntax::Claim;
+
+/// An order in which symbols are eliminated.
+#[derive(Clone, Copy, Debug, PartialEq, Eq)]
+pub enum Kind {
+    /// As the symbols are listed.
+    Listed,
+    /// The symbol of the fewest atoms first.
+    Rare,
+    /// A symbol with a constant coefficient in an equation first.
+    Unit,
+}
+
+/// The condition on chosen names under which a claim holds.
+#[derive(Drop)]
+pub enum Region {
+    Known(Claim),
+    Unknown(Cause),
+}
+
+/// The answer to one question.
+#[derive(Drop)]
+pub struct Answer {
+    pub model: Name,
+    /// The version of the model that was asked about, from 1.
+    pub version: u32,
+    /// The label of the claim.
+    pub claim: Name,
+    /// The listed symbols of the claim, in the order in which a point is printed.
+    pub symbols: Names,
+    pub example: Half,
+    pub counter: Half,
+    pub verdict: Verdict,
+    /// The condition on the names that were asked about, for a mixed verdict alone.
+    pub region: Option<Region>,
+}
