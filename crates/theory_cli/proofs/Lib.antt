@@ -1,10 +1,2 @@
-pub mod RootLemmas
-pub mod BreakpointLemmas
-pub mod TriedLemmas
-pub mod SentenceLemmas
 pub mod SessionLemmas
 pub mod RunLemmas
-pub mod ScanLemmas
-pub mod LineLemmas
-pub mod TextLemmas
-pub mod RowLemmas

@@ -8,11 +8,11 @@ use Rattle.theory_cli.specs.declared.reply.Reply.{Reply}
 use Rattle.theory_cli.specs.declared.reply.Reply.TheVariants as reply
 use Rattle.theory_cli.specs.declared.session.Halt.{Halt}
 use Rattle.theory_cli.specs.declared.session.Halt.TheVariants.{Unwritten, NoMemory}
-use Rattle.theory_cli.specs.declared.text.Role.{Role}
-use Rattle.theory_cli.specs.declared.text.Role.TheVariants as role
-use Rattle.theory_cli.specs.declared.text.Row.{Row}
-use Rattle.theory_cli.specs.OneVariable.{assumptions_of, claims_of}
-use Rattle.theory_cli.specs.Rows.{atom_claim, line_as, row_line, row_lines}
+use Rattle.theory_one_variable.specs.declared.text.Role.{Role}
+use Rattle.theory_one_variable.specs.declared.text.Role.TheVariants as role
+use Rattle.theory_one_variable.specs.declared.text.Row.{Row}
+use Rattle.theory_one_variable.specs.OneVariable.{assumptions_of, claims_of}
+use Rattle.theory_one_variable.specs.Rows.{atom_claim, line_as, row_line, row_lines}
 use Rattle.theory_cli.specs.Session.{IsAnswer, AreAnswers, IsCreation, AreReplies, AreFirstReplies, reply_text, replies_text}
 use Rattle.theory_cli.specs.Telling.{IsTold, IsCutOff, TellsOne, IsAnswering, Answers}
 

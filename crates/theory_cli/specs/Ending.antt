@@ -8,8 +8,8 @@ use Rattle.theory_cli.specs.declared.reply.Reply.{Reply}
 use Rattle.theory_cli.specs.declared.status.Status.{Status}
 use Rattle.theory_cli.specs.declared.status.Status.TheVariants.{Finished, NoCommand, Refused, Unread, Unwritten, NoMemory}
 use Rattle.theory_cli.specs.Printed.{line_end}
-use Rattle.theory_cli.specs.OneVariable.{IsOneVariable}
-use Rattle.theory_cli.specs.Spelled.{Spells}
+use Rattle.theory_one_variable.specs.OneVariable.{IsOneVariable}
+use Rattle.theory_reader.specs.Spelled.{Spells}
 use Rattle.theory_cli.specs.Session.{AreReplies, AreFirstReplies}
 
 -- the words of the command with the name of a file

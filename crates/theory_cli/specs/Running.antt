@@ -7,8 +7,8 @@ use Rattle.theory_cli.specs.declared.status.Status.{Status}
 use Rattle.theory_cli.specs.declared.status.Status.TheVariants as status
 use Rattle.theory_cli.specs.declared.running.Stop.{Stop}
 use Rattle.theory_cli.specs.declared.running.Stop.TheVariants.{Refused, Unread, Unwritten, NoMemory}
-use Rattle.theory_cli.specs.declared.text.Text.{Text}
-use Rattle.theory_cli.specs.Rows as rows
+use Rattle.theory_one_variable.specs.declared.text.Text.{Text}
+use Rattle.theory_reader.specs.Reading as reading
 use Rattle.theory_cli.specs.Printed.{line_end}
 use Rattle.theory_cli.specs.Session.{AreReplies, AreFirstReplies, replies_text}
 use Rattle.theory_cli.specs.Telling.{IsTold, IsCutOff}
@@ -20,7 +20,7 @@ WasRead texts file = (bytes : List ℕ) × IsRead texts file text_limit bytes
 
 -- the bytes spell the text, or why none was read
 abbrev pub IsParsed : List ℕ → Result Text Stop → Type 0
-IsParsed bytes (Ok text) = rows.IsRead bytes text
+IsParsed bytes (Ok text) = reading.IsRead bytes text
 IsParsed bytes (Err (Refused line)) = Unit {0}
 IsParsed bytes (Err Unread) = ⊥
 IsParsed bytes (Err Unwritten) = ⊥
@@ -28,7 +28,7 @@ IsParsed bytes (Err NoMemory) = Unit {0}
 
 -- a text was read from the file, or why it wasn't
 abbrev pub ReadsFile : Texts → List ℕ → FilesAfter → Result Text Stop → Type 0
-ReadsFile texts file files (Ok text) = (bytes : List ℕ) × IsRead texts file text_limit bytes × rows.IsRead bytes text
+ReadsFile texts file files (Ok text) = (bytes : List ℕ) × IsRead texts file text_limit bytes × reading.IsRead bytes text
 ReadsFile texts file files (Err (Refused line)) = WasRead texts file
 ReadsFile texts file files (Err Unread) = FailedSince files.asking files.faults file
 ReadsFile texts file files (Err Unwritten) = ⊥

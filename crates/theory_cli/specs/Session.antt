@@ -2,7 +2,7 @@
 use Rattle.std.specs.Prelude.{◌≡◌, ℕ, List, [], ◌∷◌, ◌++◌, None, Option}
 use Rattle.theory_meaning.specs.Point.{Name}
 use Rattle.theory_meaning.specs.Tree.{Claim, Line}
-use Rattle.theory_meaning.specs.Half.{Half, left, IsRightHalf}
+use Rattle.theory_meaning.specs.Half.{Half, IsRightHalf, IsClosedHalf}
 use Rattle.theory_meaning.specs.Verdict.{verdict_of_halves, IsRightVerdict}
 use Rattle.theory_meaning.specs.Truth.{Meets}
 use Rattle.theory_meaning.specs.Question.{IsTrueAt}
@@ -14,7 +14,7 @@ use Rattle.theory_verdict.specs.Plain.{half_of}
 use Rattle.theory_cli.specs.declared.reply.Created.{Created}
 use Rattle.theory_cli.specs.declared.reply.Reply.{Reply}
 use Rattle.theory_cli.specs.declared.reply.Reply.TheVariants as reply
-use Rattle.theory_cli.specs.OneVariable.{assumptions_of, claims_of, example_sentence, counter_sentence}
+use Rattle.theory_one_variable.specs.OneVariable.{assumptions_of, claims_of, example_sentence, counter_sentence}
 use Rattle.theory_cli.specs.Printed.{created_text, question_text, halves_text}
 
 -- the version of a model that was just created
@@ -61,10 +61,6 @@ AreFirstReplies model x rows (first ∷ answers) =
     IsCreation model first × ((asked : List (Name × Claim)) × (more : List (Name × Claim)) × (asked ++ more ≡ claims_of rows) × AreAnswers model x (assumptions_of rows) asked answers)
 
 -- no half is left open, and no region is told
-abbrev pub IsClosedHalf : Half → Type 0
-IsClosedHalf (left cause) = ⊥
-IsClosedHalf _ = Unit {0}
-
 pub record IsClosedAnswer (a : Answer) : Type 0 where
   pub example : IsClosedHalf (half_of a.example)
   pub counter : IsClosedHalf (half_of a.counter)

@@ -5,7 +5,7 @@ use Rattle.theory_meaning.specs.Tree.{Claim, Line}
 use Rattle.theory_meaning.specs.Faults.{Rose, Took, TookPart}
 use Rattle.theory_cli.specs.declared.reply.Reply.{Reply}
 use Rattle.theory_cli.specs.declared.reply.Reply.TheVariants as reply
-use Rattle.theory_cli.specs.OneVariable.{assumptions_of}
+use Rattle.theory_one_variable.specs.OneVariable.{assumptions_of}
 use Rattle.theory_cli.specs.declared.session.Halt.{Halt}
 use Rattle.theory_cli.specs.declared.session.Halt.TheVariants.{Unwritten, NoMemory}
 use Rattle.theory_cli.specs.Session.{IsAnswer, AreReplies, AreFirstReplies, reply_text, replies_text}

@@ -1,11 +1,10 @@
 ghost use Rattle.std.specs.Prelude.{◌≡◌, [], ◌∷◌, IfOk};
-ghost use Rattle.theory_cli.specs.OneVariable.{assumptions_of};
-ghost use Rattle.theory_cli.specs.Rows.{row_lines, atom_claim};
+ghost use Rattle.theory_one_variable.specs.OneVariable.{assumptions_of};
+ghost use Rattle.theory_one_variable.specs.Rows.{row_lines, atom_claim};
 ghost use Rattle.theory_cli.specs.Session.{IsAnswer, IsClosedAnswer};
 
-use crate::half::half;
-use crate::text::{Row, Text};
 use std::alloc::Global;
+use theory_one_variable::{Row, Text, half};
 use theory_points::{Name, Names, NoMemory};
 use theory_verdict::{Answer, verdict_of};
 
@@ -14,7 +13,9 @@ pub const FIRST_VERSION: u32 = 1;
 
 /// The answer to one claim of a text.
 pub fn answer(alloc: Global, text: &Text, row: &Row) -> Result<Answer, NoMemory>
-    ensures answer { IfOk result (λ a. IsAnswer text.now.model text.now.variable (assumptions_of (row_lines text.now.variable text.now.rows.items)) row.now.label (atom_claim text.now.variable row.now.atom) a) }
+    ensures answer { IfOk result (IsAnswer text.now.model text.now.variable
+        (assumptions_of (row_lines text.now.variable text.now.rows.items)) row.now.label
+        (atom_claim text.now.variable row.now.atom)) }
     ensures closed { IfOk result IsClosedAnswer }
 {
     let example = half(alloc, text, &row.atom, true)?;

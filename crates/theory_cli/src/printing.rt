@@ -2,7 +2,8 @@ ghost use Rattle.std.specs.Prelude.{◌≡◌, ◌++◌, IfOk, OnOk, decimal};
 ghost use Rattle.std.specs.Fmt.{signed_decimal};
 ghost use Rattle.theory_verdict.specs.Plain.{half_of};
 ghost use Rattle.theory_cli.specs.Printed.{fraction_text, entry_text, further_text, point_text, half_text, verdict_text, subject_text, question_text, half_line, halves_text, created_text, line_end};
-ghost use Rattle.theory_cli.specs.Session.{IsClosed, IsClosedHalf, reply_text};
+ghost use Rattle.theory_cli.specs.Session.{IsClosed, reply_text};
+ghost use Rattle.theory_meaning.specs.Half.{IsClosedHalf};
 
 use crate::reply::{Created, Reply};
 use std::alloc::Global;
@@ -35,7 +36,10 @@ fn created_line(alloc: Global, created: &Created) -> Result<Bytes, NoMemory>
 fn answer_lines(alloc: Global, answer: &Answer) -> Result<Bytes, NoMemory>
     requires example { IsClosedHalf (half_of answer.now.example) }
     requires counter { IsClosedHalf (half_of answer.now.counter) }
-    ensures { IfOk result (λ text. text ≡ question_text answer.now.model answer.now.version answer.now.claim answer.now.verdict ++ halves_text answer.now.symbols (half_of answer.now.example) (half_of answer.now.counter)) }
+    ensures { IfOk result (λ text. text ≡
+        question_text answer.now.model answer.now.version answer.now.claim answer.now.verdict
+        ++ halves_text answer.now.symbols (half_of answer.now.example)
+        (half_of answer.now.counter)) }
 {
     let mut text = question_line(alloc, answer)?;
     add_halves(alloc, &mut text, answer)?;
@@ -43,7 +47,8 @@ fn answer_lines(alloc: Global, answer: &Answer) -> Result<Bytes, NoMemory>
 }
 
 fn question_line(alloc: Global, answer: &Answer) -> Result<Bytes, NoMemory>
-    ensures { IfOk result (λ text. text ≡ question_text answer.now.model answer.now.version answer.now.claim answer.now.verdict) }
+    ensures { IfOk result (λ text. text ≡
+        question_text answer.now.model answer.now.version answer.now.claim answer.now.verdict) }
 {
     let mut text = Bytes::new(alloc);
     add_subject(alloc, &mut text, answer)?;
@@ -54,7 +59,8 @@ fn question_line(alloc: Global, answer: &Answer) -> Result<Bytes, NoMemory>
 }
 
 fn add_subject(alloc: Global, text: &mut Bytes, answer: &Answer) -> Result<(), NoMemory>
-    ensures { OnOk result (text.new ≡ text.old ++ subject_text answer.now.model answer.now.version answer.now.claim) }
+    ensures { OnOk result (text.new ≡ text.old
+        ++ subject_text answer.now.model answer.now.version answer.now.claim) }
 {
     text.extend(b"claim ")?;
     text.extend(answer.claim.as_slice())?;
@@ -67,7 +73,8 @@ fn add_subject(alloc: Global, text: &mut Bytes, answer: &Answer) -> Result<(), N
 fn add_halves(alloc: Global, text: &mut Bytes, answer: &Answer) -> Result<(), NoMemory>
     requires example { IsClosedHalf (half_of answer.now.example) }
     requires counter { IsClosedHalf (half_of answer.now.counter) }
-    ensures { OnOk result (text.new ≡ text.old ++ halves_text answer.now.symbols (half_of answer.now.example) (half_of answer.now.counter)) }
+    ensures { OnOk result (text.new ≡ text.old ++ halves_text answer.now.symbols
+        (half_of answer.now.example) (half_of answer.now.counter)) }
 {
     add_half_line(
         alloc,
@@ -93,7 +100,8 @@ fn add_half_line(
     half: &Half,
 ) -> Result<(), NoMemory>
     requires { IsClosedHalf (half_of half.now) }
-    ensures { OnOk result (text.new ≡ text.old ++ half_line word.now symbols.now (half_of half.now)) }
+    ensures { OnOk result
+        (text.new ≡ text.old ++ half_line word.now symbols.now (half_of half.now)) }
 {
     text.extend(word)?;
     add_half(alloc, text, symbols.as_slice(), half)?;

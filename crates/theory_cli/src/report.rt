@@ -59,7 +59,8 @@ fn write_line<E: Sink>(line: &[u8], meant: Status, err: &mut E) -> Status
 }
 
 fn refusal(alloc: Global, file: &String, line: u32) -> Result<Bytes, NoMemory>
-    ensures { IfOk result (λ text. text ≡ string_bytes file.now ++ codes ":" ++ decimal line ++ codes ": NotYet" ++ line_end) }
+    ensures { IfOk result (λ text. text ≡
+        string_bytes file.now ++ codes ":" ++ decimal line ++ codes ": NotYet" ++ line_end) }
 {
     let mut text = Bytes::from_slice(alloc, file.as_bytes())?;
     text.extend(b":")?;
@@ -69,7 +70,8 @@ fn refusal(alloc: Global, file: &String, line: u32) -> Result<Bytes, NoMemory>
 }
 
 fn unread(alloc: Global, file: &String) -> Result<Bytes, NoMemory>
-    ensures { IfOk result (λ text. text ≡ codes "theory: cannot read " ++ string_bytes file.now ++ line_end) }
+    ensures { IfOk result (λ text. text ≡
+        codes "theory: cannot read " ++ string_bytes file.now ++ line_end) }
 {
     let mut text = Bytes::from_slice(alloc, b"theory: cannot read ")?;
     text.extend(file.as_bytes())?;

@@ -2,15 +2,15 @@ ghost use Rattle.std.specs.Prelude.{◌≡◌, ◌≢◌, List, ℕ, [], map, Ma
 ghost use Rattle.theory_cli.specs.Ending.{FilesAfter, IsCommand};
 ghost use Rattle.theory_cli.specs.Running.{IsParsed, ReadsFile, IsStop, IsRun};
 
-use crate::read::{ReadFault, read_text};
 use crate::reply::Replies;
 use crate::report::report;
 use crate::session::{Halt, reply_to};
 use crate::status::Status;
-use crate::text::Text;
 use std::alloc::Global;
 use theory_edge::{EndFault, Files, Sink};
+use theory_one_variable::Text;
 use theory_points::Bytes;
+use theory_reader::{ReadFault, read_text};
 
 /// Why a check of a file stops before its end.
 #[derive(Clone, Copy, Debug, PartialEq, Eq)]
@@ -77,7 +77,8 @@ fn check<F: Files, O: Sink>(
     requires { replies.old ≡ [] }
     ensures { IsStop (F.texts files.old) (string_bytes file.now)
         record { asking = F.asking files.new; faults = F.fault_count files.new }
-        replies.new (O.held out.old) (O.held out.new) (O.fault_count out.old) (O.fault_count out.new) result }
+        replies.new (O.held out.old) (O.held out.new) (O.fault_count out.old)
+        (O.fault_count out.new) result }
 {
     let text = match read_file(alloc, file, files) {
         Ok(text) => text,

@@ -1,14 +1,14 @@
 ghost use Rattle.std.specs.Prelude.{◌≡◌, [], ◌∷◌, ◌++◌};
-ghost use Rattle.theory_cli.specs.Rows.{row_lines, atom_claim};
+ghost use Rattle.theory_one_variable.specs.Rows.{row_lines, atom_claim};
 ghost use Rattle.theory_cli.specs.Session.{IsClosed, IsCreation, reply_text};
 ghost use Rattle.theory_cli.specs.Telling.{Tells, TellsOne, IsAnswering, Answers};
 
 use crate::answer::{FIRST_VERSION, answer};
 use crate::printing::print;
 use crate::reply::{Created, Replies, Reply};
-use crate::text::{Role, Row, Text};
 use std::alloc::Global;
 use theory_edge::Sink;
+use theory_one_variable::{Role, Row, Text};
 use theory_points::NoMemory;
 
 /// Why the replies of a check end early.
@@ -31,7 +31,7 @@ impl From<NoMemory> for Halt {
     }
 }
 
-/// Makes, keeps and writes the replies to a text: its creation, and the answer to each claim in order.
+/// Makes, keeps and writes the replies to a text, its creation first and then each answer.
 pub fn reply_to<O: Sink>(
     alloc: Global,
     text: &Text,
@@ -39,7 +39,9 @@ pub fn reply_to<O: Sink>(
     replies: &mut Replies,
 ) -> Result<(), Halt>
     requires { replies.old ≡ [] }
-    ensures { Answers text.now.model text.now.variable (row_lines text.now.variable text.now.rows.items) replies.new (O.held out.old) (O.held out.new) (O.fault_count out.old) (O.fault_count out.new) result }
+    ensures { Answers text.now.model text.now.variable
+        (row_lines text.now.variable text.now.rows.items) replies.new (O.held out.old)
+        (O.held out.new) (O.fault_count out.old) (O.fault_count out.new) result }
 {
     if let Err(halt) = tell_creation(alloc, text, out, replies) {
         return Err(halt);
@@ -63,7 +65,8 @@ fn tell_creation<O: Sink>(
     out: &mut O,
     replies: &mut Replies,
 ) -> Result<(), Halt>
-    ensures { TellsOne (IsCreation text.now.model) replies.old replies.new (O.held out.old) (O.held out.new) (O.fault_count out.old) (O.fault_count out.new) result }
+    ensures { TellsOne (IsCreation text.now.model) replies.old replies.new (O.held out.old)
+        (O.held out.new) (O.fault_count out.old) (O.fault_count out.new) result }
 {
     let created = Created {
         model: text.model.copy(alloc)?,
@@ -79,7 +82,10 @@ fn tell_answer<O: Sink>(
     out: &mut O,
     replies: &mut Replies,
 ) -> Result<(), Halt>
-    ensures { TellsOne (IsAnswering text.now.model text.now.variable (row_lines text.now.variable text.now.rows.items) (row.now.label, atom_claim text.now.variable row.now.atom)) replies.old replies.new (O.held out.old) (O.held out.new) (O.fault_count out.old) (O.fault_count out.new) result }
+    ensures { TellsOne (IsAnswering text.now.model text.now.variable
+        (row_lines text.now.variable text.now.rows.items)
+        (row.now.label, atom_claim text.now.variable row.now.atom)) replies.old replies.new
+        (O.held out.old) (O.held out.new) (O.fault_count out.old) (O.fault_count out.new) result }
 {
     let answered = answer(alloc, text, row)?;
     tell(alloc, Reply::Answered(answered), out, replies)
@@ -93,7 +99,8 @@ fn tell<O: Sink>(
     replies: &mut Replies,
 ) -> Result<(), Halt>
     requires { IsClosed reply }
-    ensures { Tells reply replies.old replies.new (O.held out.old) (O.held out.new) (O.fault_count out.old) (O.fault_count out.new) result }
+    ensures { Tells reply replies.old replies.new (O.held out.old) (O.held out.new)
+        (O.fault_count out.old) (O.fault_count out.new) result }
 {
     let text = print(alloc, &reply)?;
     replies.push(reply)?;

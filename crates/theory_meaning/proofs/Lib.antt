@@ -2,3 +2,4 @@ pub mod WholeLaws
 pub mod OrderLaws
 pub mod ValueLaws
 pub mod VerdictLaws
+pub mod SlowLemmas

@@ -4,7 +4,7 @@ use Rattle.std.proofs.lemmas.Bool.{both_ways, cases_Bool}
 use Rattle.std.proofs.lemmas.Int.{ints}
 use Rattle.std.specs.Prelude.{int_lt}
 use Rattle.std.specs.Ordering.{int_eq}
-use Rattle.theory_meaning.specs.Fraction.{Fraction, den, cross, whole, IsSame, IsBelow, IsAtMost, same, below}
+use Rattle.theory_meaning.specs.Fraction.{Fraction, den, cross, whole, IsSame, IsBelow, same, below}
 use Rattle.theory_meaning.proofs.WholeLaws.{Scales, int_lt_scales, int_gt_scales, int_eq_scales, times-swap, sum-times, lt_scaled, lt_from_test, test_from_lt, le_from_test, test_from_le}
 
 -- the tests and the facts that they decide
@@ -119,13 +119,6 @@ order_left q p r e h = fact_from_below p r (sym (below_left q p r e) ∙ below_f
 
 pub order_right : (q p r : Fraction) → IsSame q p → IsBelow r q → IsBelow r p
 order_right q p r e h = fact_from_below r p (sym (below_right q p r e) ∙ below_from_fact r q h)
-
--- at most is not above
-pub at_most_from_below : (q r : Fraction) → below r q ≡ false → IsAtMost q r
-at_most_from_below q r h = le_from_test (cross r q) (cross q r) h
-
-pub below_from_at_most : (q r : Fraction) → IsAtMost q r → below r q ≡ false
-below_from_at_most q r h = test_from_le (cross r q) (cross q r) h
 
 -- a fraction between two others
 pub mediant : Fraction → Fraction → Fraction

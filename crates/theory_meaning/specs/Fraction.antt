@@ -30,14 +30,11 @@ IsSame q r = cross q r ≡ cross r q
 abbrev pub IsBelow : Fraction → Fraction → Type 0
 IsBelow q r = cross q r <ℤ cross r q
 
--- q is at most r
-abbrev pub IsAtMost : Fraction → Fraction → Type 0
-IsAtMost q r = cross q r ≤ℤ cross r q
-
--- the same three, as tests
+-- the same number, as a test
 abbrev pub same : Fraction → Fraction → Bool
 same q r = int_eq (cross q r) (cross r q)
 
+-- q is below r, as a test
 abbrev pub below : Fraction → Fraction → Bool
 below q r = int_lt (cross q r) (cross r q)
 
@@ -47,19 +44,23 @@ HasSign q Minus = q.num <ℤ pos 0
 HasSign q Zero = q.num ≡ pos 0
 HasSign q Plus = pos 0 <ℤ q.num
 
+-- the number with its sign turned
 abbrev pub opposite_of : Fraction → Fraction
 opposite_of q = record { num = neg_ℤ q.num; less = q.less }
 
--- the denominator of a sum, a difference and a product is the product of the two
+-- a numerator over the product of the two denominators
 abbrev pub over_both : ℤ → Fraction → Fraction → Fraction
 over_both n q r = record { num = n; less = q.less * den r + r.less }
 
+-- sum, difference and product have that denominator, and aren't reduced
 abbrev pub sum_of : Fraction → Fraction → Fraction
 sum_of q r = over_both (cross q r +ℤ cross r q) q r
 
+-- the sum with the opposite
 abbrev pub difference_of : Fraction → Fraction → Fraction
 difference_of q r = over_both (cross q r +ℤ neg_ℤ (cross r q)) q r
 
+-- the product of the numerators
 abbrev pub product_of : Fraction → Fraction → Fraction
 product_of q r = over_both (q.num *ℤ r.num) q r
 

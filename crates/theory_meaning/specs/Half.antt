@@ -30,3 +30,8 @@ IsRightHalf cs (found p) = Meets cs p
 IsRightHalf cs found_wide = IsMet cs
 IsRightHalf cs absent = (p : Point) → ¬ Meets cs p
 IsRightHalf cs (left cause) = Unit {0}
+
+-- the half isn't left open
+abbrev pub IsClosedHalf : Half → Type 0
+IsClosedHalf (left cause) = ⊥
+IsClosedHalf _ = Unit {0}

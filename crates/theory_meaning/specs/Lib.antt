@@ -7,3 +7,5 @@ pub mod Half
 pub mod Verdict
 pub mod Faults
 pub mod Question
+pub mod Slow
+pub mod Worked

@@ -7,6 +7,7 @@ use Rattle.theory_meaning.specs.Fraction.{Fraction, whole}
 abbrev pub Name : Type 0
 Name = List ℕ
 
+-- names with their values
 abbrev pub Point : Type 0
 Point = List (Name × Fraction)
 

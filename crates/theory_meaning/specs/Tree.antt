@@ -35,6 +35,7 @@ abbrev pub claims_list : Claims → List Claim
 claims_list none = []
 claims_list (more c cs) = c ∷ claims_list cs
 
+-- and back
 abbrev pub claims_from : List Claim → Claims
 claims_from [] = none
 claims_from (c ∷ cs) = more c (claims_from cs)

@@ -52,5 +52,6 @@ abbrev pub meets : List Claim → Point → Bool
 meets [] p = true
 meets (c ∷ cs) p = truth_of c p && meets cs p
 
+-- the same as a fact
 abbrev pub Meets : List Claim → Point → Type 0
 Meets cs p = IsTrue (meets cs p)

@@ -5,3 +5,11 @@ pub mod AffineLaws
 pub mod MethodLaws
 pub mod ExampleLaws
 pub mod HalfLaws
+pub mod CoefficientLaws
+pub mod FixedOrder
+pub mod FractionLaws
+pub mod PolynomialValues
+pub mod PrimitiveLaws
+pub mod RestrictionLaws
+pub mod FreeLaws
+pub mod SignLaws

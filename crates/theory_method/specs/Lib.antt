@@ -4,3 +4,6 @@ pub mod Breakpoints
 pub mod WrittenHalf
 pub mod Affine
 pub mod RightHalf
+pub mod Polynomial
+pub mod PolynomialValue
+pub mod RationalPolynomial

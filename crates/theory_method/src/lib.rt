@@ -4,6 +4,8 @@
 #![tactic(auto)]
 
 mod laws;
+mod laws_polynomial;
+mod polynomial;
 
 pub use laws::{
     affine_claims_are_steady, clash_is_met_nowhere, half_has_candidates, half_is_found,
@@ -11,3 +13,8 @@ pub use laws::{
     order_is_total, order_respects_sameness, sameness_is_an_equivalence, some_candidate_passes,
     some_expressions_are_affine, some_point_some_candidate, written_halves_are_right,
 };
+pub use laws_polynomial::{
+    coefficients_of_operations, cross_has_the_sign, polynomial_is_unique, primitive_keeps_signs,
+    restriction_keeps_signs, split_has_the_value, value_reads_coefficients, values_of_operations,
+};
+pub use polynomial::Term;

@@ -44,7 +44,7 @@ impl Frac {
         Frac { num: 0, den: 1 }
     }
 
-    /// The fraction `n / d` in lowest terms; None where `d` is 0 or a part in lowest terms passes 2^58.
+    /// The fraction `n / d` in lowest terms; None where `d` is 0 or a part then passes 2^58.
     pub fn new(n: i128, d: i128) -> Option<Frac>
         ensures value { MatchOption result (IsWideQuotient n d) (IsQuotient n d) }
         ensures kept { IfSome result IsKept }
@@ -84,7 +84,8 @@ impl Frac {
 
     /// Which of two fractions is the greater number.
     pub fn compare(&self, other: &Frac) -> Ordering
-        ensures order { MatchOrdering result (IsBelow self.now other.now) (IsSame self.now other.now) (IsBelow other.now self.now) }
+        ensures order { MatchOrdering result (IsBelow self.now other.now)
+            (IsSame self.now other.now) (IsBelow other.now self.now) }
         ensures equal { result ≡ Ordering.Equal → self.now ≡ other.now }
     {
         self.cross(other).cmp(&other.cross(self))
@@ -101,7 +102,8 @@ impl Frac {
 
     /// The sum; None where a part of it passes 2^58 in lowest terms.
     pub fn add(&self, other: &Frac) -> Option<Frac>
-        ensures value { MatchOption result (IsWide (sum_of self.now other.now)) (λ f. IsSame f (sum_of self.now other.now)) }
+        ensures value { MatchOption result (IsWide (sum_of self.now other.now))
+            (λ f. IsSame f (sum_of self.now other.now)) }
         ensures kept { IfSome result IsKept }
     {
         Frac::new(
@@ -112,7 +114,8 @@ impl Frac {
 
     /// The difference; None where a part of it passes 2^58 in lowest terms.
     pub fn sub(&self, other: &Frac) -> Option<Frac>
-        ensures value { MatchOption result (IsWide (difference_of self.now other.now)) (λ f. IsSame f (difference_of self.now other.now)) }
+        ensures value { MatchOption result (IsWide (difference_of self.now other.now))
+            (λ f. IsSame f (difference_of self.now other.now)) }
         ensures kept { IfSome result IsKept }
     {
         Frac::new(
@@ -123,7 +126,8 @@ impl Frac {
 
     /// The product; None where a part of it passes 2^58 in lowest terms.
     pub fn mul(&self, other: &Frac) -> Option<Frac>
-        ensures value { MatchOption result (IsWide (product_of self.now other.now)) (λ f. IsSame f (product_of self.now other.now)) }
+        ensures value { MatchOption result (IsWide (product_of self.now other.now))
+            (λ f. IsSame f (product_of self.now other.now)) }
         ensures kept { IfSome result IsKept }
     {
         Frac::new(self.num_product(other), self.den_product(other))

@@ -1,7 +1,7 @@
 //! Names, exact fractions within a stated bound, and points.
 //!
-//! Contracts see a `Name` as its bytes, a `Frac` as a fraction of any size that is in lowest terms and
-//! within the bound, and a `Point` as a list of names with fractions. Read `Frac::new` first.
+//! Contracts see a `Name` as its bytes, a `Frac` as a fraction of any size that is in lowest terms
+//! and within the bound, and a `Point` as a list of names with fractions. Read `Frac::new` first.
 #![tactic(auto)]
 
 mod between;

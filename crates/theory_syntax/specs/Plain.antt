@@ -19,10 +19,11 @@ expr_step (Expr-F.Neg u) = plain.opposite u.value
 expr_step (Expr-F.Prod u v) = plain.product u.value v.value
 expr_step (Expr-F.Pow u k) = plain.power u.value k
 
+-- an expression
 abbrev pub expr_of : Expr → plain.Expr
 expr_of = fold-Expr plain.Expr expr_step
 
--- the same for claims
+-- one node of a claim, with the tree of each child in its place
 abbrev pub claim_step : Claim-F plain.Claim → plain.Claim
 claim_step Claim-F.True = plain.always
 claim_step Claim-F.False = plain.never
@@ -33,6 +34,7 @@ claim_step (Claim-F.Or cs) = plain.disjunction (plain.claims_from cs.items)
 claim_step (Claim-F.Implies a b) = plain.implication a.value b.value
 claim_step (Claim-F.Iff a b) = plain.equivalence a.value b.value
 
+-- a claim
 abbrev pub claim_of : Claim → plain.Claim
 claim_of = fold-Claim plain.Claim claim_step
 

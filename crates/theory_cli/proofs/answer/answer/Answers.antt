@@ -5,8 +5,8 @@ use Rattle.theory_meaning.specs.Verdict.{IsRightVerdict}
 use Rattle.theory_meaning.specs.Question.{IsTrueAt}
 use Rattle.theory_meaning.proofs.VerdictLaws.{right_halves_give_the_right_verdict}
 use Rattle.theory_verdict.specs.Plain.{half_of}
-use Rattle.theory_cli.specs.OneVariable.{assumptions_of}
-use Rattle.theory_cli.specs.Rows.{row_lines, atom_claim}
+use Rattle.theory_one_variable.specs.OneVariable.{assumptions_of}
+use Rattle.theory_one_variable.specs.Rows.{row_lines, atom_claim}
 use Rattle.theory_cli.proofs.answer.answer.Goals as goal
 
 pub returns-clause-answer : goal.returns-clause-answer

@@ -1,0 +1,4 @@
+pub mod RootLemmas
+pub mod BreakpointLemmas
+pub mod TriedLemmas
+pub mod SentenceLemmas

@@ -1,0 +1,11 @@
+pub mod HeightLaws
+pub mod MergeLaws
+pub mod ScaleLaws
+pub mod AnswerLaws
+pub mod ProductLaws
+pub mod ContentLaws
+pub mod CanonicalLaws
+pub mod PartLaws
+pub mod StepLaws
+pub mod QuotientLaws
+pub mod QuotientSums

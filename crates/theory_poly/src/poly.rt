@@ -1,0 +1,220 @@
+ghost use Rattle.std.specs.Prelude.{◌≡◌, ◌≢◌, ◌↔◌, ℕ, ◌<◌, ◌≤◌, [], pos, negsuc, unsigned_abs, IfOk, if◌then◌else◌};
+ghost use Rattle.theory_meaning.specs.Limits.{bound};
+ghost use Rattle.theory_method.specs.Polynomial.{Monomial, IsPolynomialOf, IsBeyond, IsBeyondDivided, IsPrimitiveOf, IsCanonicalOf, IsLinearIn, IsFreeOf, IsSplit, constant_of, symbol_of, sum_of, difference_of, product_of, cross_of, scaled, height_of, degree_in};
+ghost use Rattle.theory_method.specs.PolynomialValue.{Values, HasSignAt, HaveSameSign, GivesValue, IsRestriction, IsWideRestriction};
+ghost use Rattle.theory_meaning.specs.declared.words.Sign.{Sign};
+ghost use Rattle.theory_poly.specs.Answers.{WideWhere};
+ghost use Rattle.theory_poly.specs.Kept.{IsKept, EachDivided};
+
+use crate::canonical::{signed_form, starts_below};
+use crate::content::quotient;
+use crate::judging::{judged, judged_primitive};
+use crate::merging::sum_of_multiples;
+use crate::part::{greatest_exponent, part};
+use crate::product::{cross_product, multiplied_out};
+use crate::restriction::last_step;
+use crate::term::{Term, Terms};
+use std::alloc::Global;
+use std::marker::Model;
+use theory_points::{Frac, Limit, NoMemory};
+
+/// A polynomial over whole numbers in the symbols 0 to 31, within the limits.
+#[derive(Debug, Drop)]
+pub struct Poly {
+    terms: Vec<Term>,
+}
+
+impl Model for Poly {
+    ghost use Rattle.std.specs.Prelude.{List};
+    ghost use Rattle.theory_method.specs.Polynomial.{Monomial};
+    ghost use Rattle.theory_poly.specs.Kept.{IsKept};
+
+    ghost Value = { List Monomial };
+
+    ghost view = { λ p. p.terms.items };
+
+    ghost invariant = { λ p. IsKept p.terms.items };
+}
+
+impl Poly {
+    /// A whole number; 0 has no term.
+    pub fn constant(alloc: Global, c: i64) -> Result<Poly, NoMemory>
+        requires { unsigned_abs c ≤ bound }
+        ensures { IfOk result (IsPolynomialOf (constant_of c)) }
+    {
+        let mut terms = Vec::new(alloc);
+        if c != 0 {
+            terms.push(Term {
+                coefficient: c,
+                powers: [0; 32],
+            })?;
+        }
+        Ok(Poly { terms })
+    }
+
+    /// A symbol, counted from 0.
+    pub fn symbol(alloc: Global, x: u8) -> Result<Poly, NoMemory>
+        requires { x < 32 }
+        ensures { IfOk result (λ r. r ≡ symbol_of x) }
+    {
+        let mut powers = [0; 32];
+        powers[x as usize] = 1;
+        let mut terms = Vec::new(alloc);
+        terms.push(Term {
+            coefficient: 1,
+            powers,
+        })?;
+        Ok(Poly { terms })
+    }
+
+    /// The terms in the fixed order.
+    pub fn terms(&self) -> &Terms
+        ensures value { result.now.items ≡ self.now }
+        ensures kept { IsKept self.now }
+    {
+        &self.terms
+    }
+
+    /// The same terms as a slice.
+    pub(crate) fn as_slice(&self) -> &[Term]
+        ensures value { result.now ≡ self.now }
+        ensures kept { IsKept self.now }
+    {
+        self.terms.as_slice()
+    }
+
+    /// The polynomial of terms in the fixed order and within the limits.
+    pub(crate) fn from_kept(terms: Vec<Term>) -> Poly
+        requires { IsKept terms.items }
+        ensures { result ≡ terms.items }
+    {
+        Poly { terms }
+    }
+
+    /// Each coefficient divided by a number that divides it, in place.
+    pub(crate) fn divided_by(mut self, divisor: u128) -> Poly
+        requires positive { 0 < divisor }
+        requires divides { EachDivided divisor self }
+        ensures { scaled (pos divisor) result ≡ self }
+    {
+        divide_all(self.terms.as_mut_slice(), divisor);
+        self
+    }
+
+    /// The greatest exponent of a symbol, 0 for none.
+    pub fn degree_in(&self, x: u8) -> u8
+        requires { x < 32 }
+        ensures { result ≡ degree_in x self.now }
+    {
+        greatest_exponent(x, self.as_slice())
+    }
+
+    /// The sum; Wide where it passes a limit.
+    pub fn add(&self, alloc: Global, other: &Poly) -> Result<Poly, Limit>
+        ensures value { IfOk result (IsPolynomialOf (sum_of self.now other.now)) }
+        ensures wide { WideWhere (IsBeyond (sum_of self.now other.now)) result }
+    {
+        let all = sum_of_multiples(alloc, 1, self.as_slice(), 1, other.as_slice())?;
+        judged(alloc, &all)
+    }
+
+    /// The difference; Wide where it passes a limit.
+    pub fn sub(&self, alloc: Global, other: &Poly) -> Result<Poly, Limit>
+        ensures value { IfOk result (IsPolynomialOf (difference_of self.now other.now)) }
+        ensures wide { WideWhere (IsBeyond (difference_of self.now other.now)) result }
+    {
+        let all = sum_of_multiples(alloc, 1, self.as_slice(), -1, other.as_slice())?;
+        judged(alloc, &all)
+    }
+
+    /// The product; Wide where it passes a limit, however many terms there are before they cancel.
+    pub fn mul(&self, alloc: Global, other: &Poly) -> Result<Poly, Limit>
+        ensures value { IfOk result (IsPolynomialOf (product_of self.now other.now)) }
+        ensures wide { WideWhere (IsBeyond (product_of self.now other.now)) result }
+    {
+        let all = multiplied_out(alloc, self.as_slice(), other.as_slice())?;
+        judged(alloc, &all)
+    }
+
+    /// `a * b2 - a2 * b` divided by its content; Wide where what is left passes a limit.
+    pub fn cross(alloc: Global, a: &Poly, b2: &Poly, a2: &Poly, b: &Poly) -> Result<Poly, Limit>
+        ensures value { IfOk result (IsPrimitiveOf (cross_of a.now b2.now a2.now b.now)) }
+        ensures wide { WideWhere (IsBeyondDivided (cross_of a.now b2.now a2.now b.now)) result }
+
+        // At every point it has the sign of the difference of the products.
+        ensures sign { IfOk result (λ r. HaveSameSign r (cross_of a.now b2.now a2.now b.now)) }
+    {
+        let all = cross_product(
+            alloc,
+            a.as_slice(),
+            b2.as_slice(),
+            a2.as_slice(),
+            b.as_slice(),
+        )?;
+        judged_primitive(alloc, &all)
+    }
+
+    /// Content 1 and a positive first coefficient, and whether the sign was turned for that.
+    pub fn canonical(&self, alloc: Global) -> Result<(Poly, bool), NoMemory>
+        requires { self.now ≢ [] }
+        ensures value { IfOk result (λ found. IsCanonicalOf self.now found.1 found.0) }
+
+        // The sign is kept where it was not turned, and else turned at every point.
+        ensures sign { IfOk result (λ found. (p : Values) (s : Sign) →
+            HasSignAt p found.0 s ↔ HasSignAt p (scaled (if found.1 then negsuc 0 else pos 1) self.now) s) }
+    {
+        let turned = starts_below(self.as_slice());
+        let poly = signed_form(alloc, turned, self.as_slice())?;
+        Ok((poly, turned))
+    }
+
+    /// Slope and base, where the exponents of the symbol are at most 1.
+    pub fn split_linear(&self, alloc: Global, x: u8) -> Result<(Poly, Poly), NoMemory>
+        requires symbol { x < 32 }
+        requires linear { IsLinearIn x self.now }
+        ensures { IfOk result (λ found. IsSplit x self.now found.0 found.1) }
+    {
+        let slope = part(alloc, x, 1, self.as_slice())?;
+        let base = part(alloc, x, 0, self.as_slice())?;
+        Ok((slope, base))
+    }
+
+    /// A polynomial without the symbol, with the same sign at every point that gives it this value;
+    /// Wide where a step on the way passes a limit, before the division by the content.
+    pub fn restrict(&self, alloc: Global, x: u8, value: &Frac) -> Result<Poly, Limit>
+        requires { x < 32 }
+        ensures written { IfOk result (IsRestriction x value.now self.now) }
+        ensures free { IfOk result (IsFreeOf x) }
+        ensures wide { WideWhere (IsWideRestriction x value.now self.now) result }
+
+        // At every point with that value it has the sign of the polynomial.
+        ensures sign { IfOk result (λ r. (p : Values) (s : Sign) → GivesValue x value.now p →
+            HasSignAt p r s ↔ HasSignAt p self.now s) }
+    {
+        let last = match last_step(alloc, x, value, self.as_slice()) {
+            Ok(last) => last,
+            Err(limit) => return Err(limit),
+        };
+        let least = signed_form(alloc, false, last.as_slice())?;
+        Ok(least)
+    }
+
+    /// An equal value.
+    pub fn copy(&self, alloc: Global) -> Result<Poly, NoMemory>
+        ensures { IfOk result (λ p. p ≡ self.now) }
+    {
+        let terms = Vec::from_slice(alloc, self.as_slice())?;
+        Ok(Poly { terms })
+    }
+}
+
+fn divide_all(terms: &mut [Term], divisor: u128)
+    requires positive { 0 < divisor }
+    requires divides { EachDivided divisor terms.old }
+    requires small { height_of terms.old ≤ bound }
+    ensures { scaled (pos divisor) terms.new ≡ terms.old }
+{
+    for t in terms.iter_mut() {
+        t.coefficient = quotient(t.coefficient as i128, divisor) as i64;
+    }
+}

@@ -1,0 +1,279 @@
+use crate::rows::{W, answers, block, build, cross_is, monomial, product_is, restriction_is};
+
+// The expected rows of the tables are worked out by hand.
+#[test]
+fn multiplies_to_the_limits(rt: HostRuntime) {
+    let alloc = rt.alloc();
+    for (a, b, want) in [
+        ([(1, 7, 0)], [(1, 8, 0)], Some([(1, 15, 0)])),
+        ([(1, 8, 0)], [(1, 8, 0)], None),
+        ([(1, 0, 15)], [(1, 1, 0)], Some([(1, 1, 15)])),
+        ([(1, 0, 15)], [(1, 0, 1)], None),
+        ([(W, 1, 0)], [(1, 0, 1)], Some([(W, 1, 1)])),
+        ([(W, 1, 0)], [(-1, 0, 1)], Some([(-W, 1, 1)])),
+        ([(W, 1, 0)], [(2, 0, 0)], None),
+        ([(-W, 1, 0)], [(2, 0, 0)], None),
+        ([(1 << 29, 1, 0)], [(1 << 29, 0, 0)], Some([(W, 1, 0)])),
+        ([(1 << 29, 1, 0)], [((1 << 29) + 1, 0, 0)], None),
+        ([(W, 0, 0)], [(W, 0, 0)], None),
+    ] {
+        let found = match &want {
+            Some(rows) => product_is(alloc, &a, &b, Some(rows)),
+            None => product_is(alloc, &a, &b, None),
+        };
+        assert!(rt; found, "{a:?} times {b:?}");
+    }
+}
+
+#[test]
+fn cancels_in_products(rt: HostRuntime) {
+    let alloc = rt.alloc();
+    assert!(rt;
+        product_is(
+            alloc,
+            &[(1, 1, 0), (1, 0, 1)],
+            &[(1, 1, 0), (-1, 0, 1)],
+            Some(&[(1, 2, 0), (-1, 0, 2)])
+        )
+    );
+    assert!(rt;
+        product_is(
+            alloc,
+            &[(1, 8, 0), (1, 0, 0)],
+            &[(1, 8, 0), (-1, 0, 0)],
+            None
+        )
+    );
+    assert!(rt; product_is(alloc, &[(1, 1, 0)], &[], Some(&[])));
+}
+
+/// 144 exponent lists stand on the way, 32 are left.
+#[test]
+fn cancels_past_the_129th_term(rt: HostRuntime) {
+    let alloc = rt.alloc();
+    let found = match (block(alloc, 8, 16), build(alloc, &[(1, 1, 0), (-1, 0, 0)])) {
+        (Some(a), Some(b)) => match a.mul(alloc, &b) {
+            Ok(poly) => poly.terms().len() == 32,
+            Err(_) => false,
+        },
+        _ => false,
+    };
+    assert!(rt; found);
+}
+
+#[test]
+fn sums_up_to_128_terms(rt: HostRuntime) {
+    let alloc = rt.alloc();
+    let found = match (
+        block(alloc, 8, 16),
+        monomial(alloc, (1, 8, 0)),
+        monomial(alloc, (-1, 0, 0)),
+    ) {
+        (Some(a), Some(b), Some(c)) => {
+            answers(a.add(alloc, &b), None)
+                && answers(a.sub(alloc, &b), None)
+                && match a.add(alloc, &c) {
+                    Ok(poly) => poly.terms().len() == 127,
+                    Err(_) => false,
+                }
+        }
+        _ => false,
+    };
+    assert!(rt; found);
+}
+
+#[test]
+fn crosses_by_hand(rt: HostRuntime) {
+    let alloc = rt.alloc();
+    assert!(rt;
+        cross_is(
+            alloc,
+            &[(2, 0, 0)],
+            &[(1, 1, 0)],
+            &[(4, 0, 0)],
+            &[(1, 0, 1)],
+            Some(&[(1, 1, 0), (-2, 0, 1)])
+        )
+    );
+    assert!(rt;
+        cross_is(
+            alloc,
+            &[(W, 0, 0)],
+            &[(1, 1, 0)],
+            &[(W, 0, 0)],
+            &[(1, 0, 1)],
+            Some(&[(1, 1, 0), (-1, 0, 1)])
+        )
+    );
+    assert!(rt;
+        cross_is(
+            alloc,
+            &[(W, 0, 0)],
+            &[(W, 1, 0)],
+            &[],
+            &[],
+            Some(&[(1, 1, 0)])
+        ),
+        "judged after the division"
+    );
+    assert!(rt;
+        cross_is(
+            alloc,
+            &[(W, 0, 0)],
+            &[(W, 1, 0)],
+            &[(1, 0, 0)],
+            &[(1, 0, 1)],
+            None
+        )
+    );
+    assert!(rt;
+        cross_is(
+            alloc,
+            &[],
+            &[],
+            &[(3, 0, 0)],
+            &[(1, 1, 0)],
+            Some(&[(-1, 1, 0)])
+        ),
+        "a positive content"
+    );
+    assert!(rt;
+        cross_is(
+            alloc,
+            &[(2, 0, 0)],
+            &[(3, 0, 0)],
+            &[(1, 0, 0)],
+            &[(8, 0, 0)],
+            Some(&[(-1, 0, 0)])
+        )
+    );
+}
+
+#[test]
+fn crosses_at_the_limits(rt: HostRuntime) {
+    let alloc = rt.alloc();
+    assert!(rt;
+        cross_is(
+            alloc,
+            &[(1, 8, 0)],
+            &[(1, 8, 0)],
+            &[(1, 8, 0)],
+            &[(1, 8, 0)],
+            Some(&[])
+        ),
+        "both products cancel"
+    );
+    assert!(rt;
+        cross_is(alloc, &[(1, 8, 0)], &[(1, 8, 0)], &[], &[], None),
+        "exponent 16"
+    );
+    assert!(rt;
+        cross_is(
+            alloc,
+            &[(1, 8, 0)],
+            &[(1, 7, 0)],
+            &[],
+            &[],
+            Some(&[(1, 15, 0)])
+        ),
+        "exponent 15"
+    );
+    assert!(rt;
+        cross_is(
+            alloc,
+            &[(W, 0, 0)],
+            &[(2, 1, 0)],
+            &[(1, 0, 0)],
+            &[(1, 0, 1)],
+            None
+        ),
+        "2 W with content 1"
+    );
+    assert!(rt;
+        cross_is(
+            alloc,
+            &[(W, 0, 0)],
+            &[(2, 1, 0)],
+            &[(2, 0, 0)],
+            &[(1, 0, 1)],
+            Some(&[(W, 1, 0), (-1, 0, 1)])
+        )
+    );
+}
+
+#[test]
+fn restricts_by_hand(rt: HostRuntime) {
+    let alloc = rt.alloc();
+    assert!(rt;
+        restriction_is(
+            alloc,
+            &[(1, 2, 1), (-3, 0, 0)],
+            1,
+            2,
+            Some(&[(1, 0, 1), (-12, 0, 0)])
+        )
+    );
+    assert!(rt;
+        restriction_is(
+            alloc,
+            &[(1, 1, 1), (2, 0, 0)],
+            2,
+            1,
+            Some(&[(1, 0, 1), (1, 0, 0)])
+        )
+    );
+    assert!(rt;
+        restriction_is(
+            alloc,
+            &[(6, 0, 1), (4, 0, 0)],
+            5,
+            7,
+            Some(&[(3, 0, 1), (2, 0, 0)])
+        ),
+        "without the symbol"
+    );
+    assert!(rt;
+        restriction_is(alloc, &[(1, 1, 0), (-1, 0, 0)], 1, 1, Some(&[])),
+        "a root"
+    );
+    assert!(rt;
+        restriction_is(alloc, &[(1, 1, 0), (1, 0, 1)], 0, 1, Some(&[(1, 0, 1)])),
+        "at 0"
+    );
+    assert!(rt;
+        restriction_is(
+            alloc,
+            &[(1, 1, 0), (1, 0, 1)],
+            -3,
+            2,
+            Some(&[(2, 0, 1), (-3, 0, 0)])
+        )
+    );
+}
+
+#[test]
+fn restricts_at_the_limits(rt: HostRuntime) {
+    let alloc = rt.alloc();
+    let big = 1 << 29;
+    assert!(rt; restriction_is(alloc, &[(1, 1, 0)], 1 << 58, 1, Some(&[(1, 0, 0)])));
+    assert!(rt;
+        restriction_is(alloc, &[(2, 1, 0)], 1 << 58, 1, None),
+        "2 W before the division"
+    );
+    assert!(rt; restriction_is(alloc, &[(1, 2, 0)], 1, big, Some(&[(1, 0, 0)])));
+    assert!(rt;
+        restriction_is(alloc, &[(1, 2, 0)], 1, big + 1, None),
+        "a power past W with a part that is zero"
+    );
+    assert!(rt; restriction_is(alloc, &[(1, 3, 0)], 1 << 20, 1, None));
+    assert!(rt;
+        restriction_is(
+            alloc,
+            &[(1, 15, 1), (1, 0, 0)],
+            2,
+            1,
+            Some(&[(1 << 15, 0, 1), (1, 0, 0)])
+        )
+    );
+    assert!(rt; restriction_is(alloc, &[(W, 0, 0), (-1, 1, 0)], 1 << 58, 1, Some(&[])));
+}

@@ -1,0 +1,4 @@
+pub mod ScanLemmas
+pub mod LineLemmas
+pub mod TextLemmas
+pub mod RowLemmas
