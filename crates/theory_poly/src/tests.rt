@@ -15,6 +15,9 @@ fn multiplies_to_the_limits(rt: HostRuntime) {
         ([(-W, 1, 0)], [(2, 0, 0)], None),
         ([(1 << 29, 1, 0)], [(1 << 29, 0, 0)], Some([(W, 1, 0)])),
         ([(1 << 29, 1, 0)], [((1 << 29) + 1, 0, 0)], None),
+        // 5 * 57646075230342349 = 2^58 + 1
+        ([(57646075230342349, 1, 0)], [(5, 0, 0)], None),
+        ([(-57646075230342349, 1, 0)], [(5, 0, 0)], None),
         ([(W, 0, 0)], [(W, 0, 0)], None),
     ] {
         let found = match &want {
@@ -259,6 +262,19 @@ fn restricts_at_the_limits(rt: HostRuntime) {
     assert!(rt;
         restriction_is(alloc, &[(2, 1, 0)], 1 << 58, 1, None),
         "2 W before the division"
+    );
+    assert!(rt;
+        restriction_is(alloc, &[(1, 1, 1), (1, 0, 1)], 1 << 58, 1, None),
+        "W + 1 before the division"
+    );
+    assert!(rt;
+        restriction_is(
+            alloc,
+            &[(1, 1, 1), (-1, 0, 1)],
+            1 << 58,
+            1,
+            Some(&[(1, 0, 1)])
+        )
     );
     assert!(rt; restriction_is(alloc, &[(1, 2, 0)], 1, big, Some(&[(1, 0, 0)])));
     assert!(rt;
