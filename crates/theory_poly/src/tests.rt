@@ -79,6 +79,10 @@ fn sums_up_to_128_terms(rt: HostRuntime) {
                     Ok(poly) => poly.terms().len() == 127,
                     Err(_) => false,
                 }
+                && match a.sub(alloc, &c) {
+                    Ok(poly) => poly.terms().len() == 128 && poly.terms()[127].coefficient == 2,
+                    Err(_) => false,
+                }
         }
         _ => false,
     };
