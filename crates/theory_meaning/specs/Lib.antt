@@ -3,6 +3,8 @@ pub mod Limits
 pub mod Point
 pub mod Tree
 pub mod Truth
+pub mod Identifier
+pub mod Text
 pub mod Half
 pub mod Verdict
 pub mod Faults

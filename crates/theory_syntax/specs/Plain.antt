@@ -1,6 +1,7 @@
--- The plain trees that expressions, claims and lines stand for.
+-- The plain trees that expressions, claims, lines and texts stand for.
 use Rattle.std.specs.Prelude.{List, map}
 use Rattle.theory_meaning.specs.Tree as plain
+use Rattle.theory_meaning.specs.Text as text
 use Rattle.theory_syntax.specs.declared.expr.Expr.{Expr}
 use Rattle.theory_syntax.specs.declared.expr.Expr.TheOpen.{Expr-F}
 use Rattle.theory_syntax.specs.declared.expr.Expr.TheFolds.{fold-Expr}
@@ -8,6 +9,8 @@ use Rattle.theory_syntax.specs.declared.claim.Claim.{Claim}
 use Rattle.theory_syntax.specs.declared.claim.Claim.TheOpen.{Claim-F}
 use Rattle.theory_syntax.specs.declared.claim.Claim.TheFolds.{fold-Claim}
 use Rattle.theory_syntax.specs.declared.line.Line as source
+use Rattle.theory_syntax.specs.declared.text.Numbered.{Numbered}
+use Rattle.theory_syntax.specs.declared.text.Op as change
 
 -- one node, with the tree of each child in its place
 abbrev pub expr_step : Expr-F plain.Expr → plain.Expr
@@ -51,3 +54,18 @@ line_of (source.TheVariants.Fun name arguments) = plain.function name arguments
 line_of (source.TheVariants.Eq label u v) = plain.equation label (expr_of u) (expr_of v)
 line_of (source.TheVariants.Assume label c) = plain.assume label (claim_of c)
 line_of (source.TheVariants.Claim label shift c) = plain.claim label shift (claim_of c)
+
+-- a line with its number, and the lines of a text
+abbrev pub numbered_of : Numbered → text.Numbered
+numbered_of n = record { at = n.at; line = line_of n.line }
+
+abbrev pub lines_of : List Numbered → List text.Numbered
+lines_of = map numbered_of
+
+-- a change, and changes in order
+abbrev pub op_of : change.Op → text.Op
+op_of (change.TheVariants.Put line) = text.put_line (line_of line)
+op_of (change.TheVariants.Drop key) = text.drop_key key
+
+abbrev pub ops_of : List change.Op → List text.Op
+ops_of = map op_of
