@@ -13,3 +13,5 @@ pub mod PrimitiveLaws
 pub mod RestrictionLaws
 pub mod FreeLaws
 pub mod SignLaws
+pub mod TurnedLaws
+pub mod FormulaLaws

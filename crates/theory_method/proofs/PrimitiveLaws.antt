@@ -116,7 +116,7 @@ turned_back ts = record {
 turned_nothing : (ts : List Monomial) → AreSame ts [] → AreSame (scaled (negsuc 0) ts) []
 turned_nothing ts h = scaled_same (negsuc 0) ts [] h
 
-content_of_turned_back : (ts : List Monomial) (g : ℕ) → IsContent ts g → IsContent (scaled (negsuc 0) ts) g
+pub content_of_turned_back : (ts : List Monomial) (g : ℕ) → IsContent ts g → IsContent (scaled (negsuc 0) ts) g
 content_of_turned_back ts g h = record {
   positive = h.positive;
   divides = turned_divides g ts h.divides;

@@ -4,6 +4,15 @@ pub mod Breakpoints
 pub mod WrittenHalf
 pub mod Affine
 pub mod RightHalf
+pub mod Terms
 pub mod Polynomial
 pub mod PolynomialValue
 pub mod RationalPolynomial
+pub mod Signs
+pub mod Formula
+pub mod FormulaAtoms
+pub mod NormalForm
+pub mod SignCondition
+pub mod Lowered
+pub mod LoweringLimits
+pub mod WrittenClaim

@@ -1,7 +1,8 @@
-ghost use Rattle.std.specs.Prelude.{◌≡◌, ◌↔◌, ℕ, ℤ, pos, negsuc, neg_ℤ, ◌+ℤ◌, ◌*ℤ◌, List, [], ◌∷◌, Bool, if◌then◌else◌};
+ghost use Rattle.std.specs.Prelude.{◌≡◌, ◌↔◌, ℕ, ℤ, pos, negsuc, neg_ℤ, ◌+ℤ◌, ◌*ℤ◌, List, true, false};
 ghost use Rattle.theory_meaning.specs.Fraction.{Fraction, whole, IsSame, HasSign, sum_of as fraction_sum, difference_of as fraction_difference, product_of as fraction_product};
 ghost use Rattle.theory_meaning.specs.declared.words.Sign.{Sign};
 ghost use Rattle.theory_method.specs.Polynomial.{Monomial, coefficient_at, AreSame, IsPolynomial, IsPolynomialOf, IsPrimitiveOf, IsCanonicalOf, IsFreeOf, IsSplit, scaled, sum_of, difference_of, product_of, cross_of, constant_of, symbol_of};
+ghost use Rattle.theory_method.specs.Signs.{opposite_sign};
 ghost use Rattle.theory_method.specs.PolynomialValue.{Values, symbol_at, polynomial_at, HasSignAt, HaveSameSign, GivesValue, IsRestriction};
 
 /// A list in the fixed order, without zeros, is known by its coefficients.
@@ -41,6 +42,13 @@ pub fn values_of_operations()
 pub fn primitive_keeps_signs()
     ensures unique { (ts all r s : List Monomial) → IsPolynomialOf ts all → IsPrimitiveOf ts r → IsPrimitiveOf ts s → r ≡ s }
     ensures sign { (ts r : List Monomial) → IsPrimitiveOf ts r → HaveSameSign r ts }
+{}
+
+/// The canonical form keeps the sign at every point, or turns it at every point, as it says.
+pub fn canonical_keeps_or_turns_signs()
+    ensures kept { (ts r : List Monomial) → IsCanonicalOf ts false r → HaveSameSign r ts }
+    ensures turned { (ts r : List Monomial) (p : Values) (s : Sign) → IsCanonicalOf ts true r →
+        HasSignAt p r s ↔ HasSignAt p ts (opposite_sign s) }
 {}
 
 /// What is left of a difference of products has the sign of that difference of the values.
