@@ -12,8 +12,9 @@ use Rattle.theory_meaning.specs.Truth.{holds}
 use Rattle.theory_method.specs.declared.signs.Signs.{Signs}
 use Rattle.theory_method.specs.declared.signs.Signs.TheVariants as set
 use Rattle.theory_method.specs.Polynomial.{Monomial}
+use Rattle.theory_method.specs.PolynomialValue.{Values}
 use Rattle.theory_method.specs.Signs.{has, complement, set_of, signs_of, sign_of, sign_of_whole}
-use Rattle.theory_method.specs.Formula.{Formula, Formulas, always, never, atom, conjunction, disjunction, none, more, Reading, truth_by, all_by, some_by, EachAtom, EachAtomOfAll, StaysTrue, negated, negated_all}
+use Rattle.theory_method.specs.Formula.{Formula, Formulas, always, never, atom, conjunction, disjunction, none, more, Reading, reading_at, sign_at, truth_at, truth_by, all_by, some_by, EachAtom, EachAtomOfAll, StaysTrue, negated, negated_all}
 
 -- a set is the set of its signs
 set_of_own : (S : Signs) → set_of (has S Minus) (has S Zero) (has S Plus) ≡ Some S
@@ -151,3 +152,7 @@ mutual
   all_negated : (Fs : Formulas) (r : Reading) → TurnsComplements r → all_by r (negated_all Fs) ≡ not (some_by r Fs)
   all_negated none r h = refl
   all_negated (more F Fs) r h = ap₂ ◌&&◌ (negated_turns F r h) (all_negated Fs r h) ∙ not_either (truth_by r F) (some_by r Fs)
+
+-- negation turns truth
+pub negation_turns : (F : Formula) (p : Values) → truth_at (negated F) p ≡ not (truth_at F p)
+negation_turns F p = negated_turns F (reading_at p) (record { turned = λ P S. complement_has S (sign_at P p) })

@@ -15,3 +15,4 @@ pub mod FreeLaws
 pub mod SignLaws
 pub mod TurnedLaws
 pub mod FormulaLaws
+pub mod ConditionLaws

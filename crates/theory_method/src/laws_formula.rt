@@ -1,12 +1,14 @@
-ghost use Rattle.std.specs.Prelude.{◌≡◌, Bool, false, true, not, ◌&&◌, ◌||◌, IsTrue, MatchOption};
+ghost use Rattle.std.specs.Prelude.{List, ◌≡◌, Bool, false, true, not, ◌&&◌, ◌||◌, IsTrue, MatchOption};
 ghost use Rattle.theory_meaning.specs.Fraction.{Fraction, difference_of, HasSign};
 ghost use Rattle.theory_meaning.specs.Truth.{holds};
 ghost use Rattle.theory_meaning.specs.declared.words.Rel.{Rel};
 ghost use Rattle.theory_meaning.specs.declared.words.Sign.{Sign};
 ghost use Rattle.theory_method.specs.declared.signs.Signs.{Signs};
 ghost use Rattle.theory_method.specs.PolynomialValue.{Values};
+ghost use Rattle.theory_method.specs.Polynomial.{Monomial, IsPolynomial};
+ghost use Rattle.theory_method.specs.SignCondition.{IsAtomOf};
 ghost use Rattle.theory_method.specs.Signs.{has, opposite_sign, is_zero, mirror, complement, without_zero, meet, join, signs_of, sign_of};
-ghost use Rattle.theory_method.specs.Formula.{Formula, Reading, truth_by, truth_at, EachAtom, StaysTrue, negated};
+ghost use Rattle.theory_method.specs.Formula.{Formula, Reading, truth_by, truth_at, sign_at, EachAtom, StaysTrue, negated};
 
 /// The sign of a fraction is the one sign that it has.
 pub fn each_fraction_has_one_sign()
@@ -41,6 +43,12 @@ pub fn parts_of_sets_have_their_signs()
 /// Two numbers are in a relation exactly where the sign of their difference is in its set.
 pub fn relations_are_signs_of_differences()
     ensures { (rel : Rel) (q r : Fraction) → has (signs_of rel) (sign_of (difference_of q r)) ≡ holds rel q r }
+{}
+
+/// The condition on a polynomial is true exactly where the set has the sign of the polynomial.
+pub fn conditions_have_the_truth_of_the_sign()
+    ensures { (P : List Monomial) (S : Signs) (F : Formula) (p : Values) → IsPolynomial P → IsAtomOf P S F →
+        truth_at F p ≡ has S (sign_at P p) }
 {}
 
 /// A formula whose true atoms stay true stays true.

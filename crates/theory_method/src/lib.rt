@@ -8,6 +8,8 @@ mod laws_formula;
 mod laws_polynomial;
 mod polynomial;
 mod signs;
+#[cfg(test)]
+mod signs_tests;
 
 pub use laws::{
     affine_claims_are_steady, clash_is_met_nowhere, half_has_candidates, half_is_found,
@@ -16,7 +18,7 @@ pub use laws::{
     some_expressions_are_affine, some_point_some_candidate, written_halves_are_right,
 };
 pub use laws_formula::{
-    a_set_is_known_by_its_signs, each_fraction_has_one_sign,
+    a_set_is_known_by_its_signs, conditions_have_the_truth_of_the_sign, each_fraction_has_one_sign,
     mirror_and_complement_have_their_signs, negation_turns_truth, parts_of_sets_have_their_signs,
     relations_are_signs_of_differences, true_atoms_keep_a_formula_true,
 };
