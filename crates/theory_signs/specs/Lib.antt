@@ -1,0 +1,5 @@
+pub use Rattle.theory_method.specs.Signs
+pub use Rattle.theory_method.specs.Formula
+pub use Rattle.theory_method.specs.SignCondition
+pub mod Condition
+pub mod Plain

@@ -1,0 +1,22 @@
+//! Sign conditions on polynomials, formulas of them, and the lowering of claims to formulas.
+//!
+//! A contract sees an `Atom` as its polynomial and its set of signs, and a `Formula` as the plain tree
+//! that it stands for: `formula_of` of `specs/Plain.antt`. Each call keeps or turns the truth at every point.
+//! Read `make_atom` first.
+#![tactic(auto)]
+
+mod atom;
+mod copying;
+mod formula;
+mod making;
+mod negation;
+#[cfg(test)]
+mod rows;
+#[cfg(test)]
+mod tests;
+
+pub use atom::Atom;
+pub use formula::{Formula, Formulas};
+pub use making::make_atom;
+pub use negation::negate;
+pub use theory_method::Signs;
