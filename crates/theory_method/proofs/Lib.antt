@@ -16,3 +16,4 @@ pub mod SignLaws
 pub mod TurnedLaws
 pub mod FormulaLaws
 pub mod ConditionLaws
+pub mod WrittenLaws

@@ -1,2 +1,3 @@
 pub mod FormulaLemmas
 pub mod PlainLemmas
+pub mod WrittenLemmas

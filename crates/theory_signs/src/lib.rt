@@ -6,16 +6,19 @@
 #![tactic(auto)]
 
 mod atom;
+mod claims;
 mod copying;
 mod formula;
 mod making;
 mod negation;
+mod polynomials;
 #[cfg(test)]
 mod rows;
 #[cfg(test)]
 mod tests;
 
 pub use atom::Atom;
+pub use claims::claim_of;
 pub use formula::{Formula, Formulas};
 pub use making::make_atom;
 pub use negation::negate;
