@@ -7,7 +7,7 @@ use Rattle.theory_meaning.specs.Fraction.{den}
 use Rattle.theory_meaning.specs.Point.{Name, Point, value_at}
 use Rattle.theory_meaning.specs.Tree.{Expr, number, symbol, sum, difference, opposite, product, power, Claim, Claims, claims_from}
 use Rattle.theory_meaning.specs.Tree as claim
-use Rattle.theory_method.specs.Polynomial.{constant_of, symbol_of, scaled}
+use Rattle.theory_method.specs.Polynomial.{Monomial, constant_of, symbol_of}
 use Rattle.theory_method.specs.PolynomialValue.{Values}
 use Rattle.theory_method.specs.RationalPolynomial.{Quotient, IsLowestOf, sum_of_quotients, difference_of_quotients, product_of_quotients}
 use Rattle.theory_method.specs.Signs.{signs_of}
@@ -24,28 +24,36 @@ place_of x (y ∷ ns) = if bytes_eq y x then zero else suc (place_of x ns)
 abbrev pub values_of : List Name → Point → Values
 values_of ns p = map (value_at p) ns
 
--- powers of a polynomial over a number
-abbrev pub power_of_quotient : Quotient → ℕ → Quotient
-power_of_quotient q zero = record { top = constant_of (pos 1); below = 1 }
-power_of_quotient q (suc k) = product_of_quotients (power_of_quotient q k) q
+-- a sum of terms over a number
+abbrev pub over : List Monomial → ℕ → Quotient
+over ts b = record { top = ts; below = b }
 
--- an expression as a polynomial over a number, not in lowest form
-abbrev pub quotient_of : List Name → Expr → Quotient
-quotient_of ns (number q) = record { top = constant_of q.num; below = den q }
-quotient_of ns (symbol x) = record { top = symbol_of (place_of x ns); below = 1 }
-quotient_of ns (sum u v) = sum_of_quotients (quotient_of ns u) (quotient_of ns v)
-quotient_of ns (difference u v) = difference_of_quotients (quotient_of ns u) (quotient_of ns v)
-quotient_of ns (opposite u) = record { top = scaled (negsuc 0) (quotient_of ns u).top; below = (quotient_of ns u).below }
-quotient_of ns (product u v) = product_of_quotients (quotient_of ns u) (quotient_of ns v)
-quotient_of ns (power u k) = power_of_quotient (quotient_of ns u) k
+-- the lowest form of what an operation gives for two lowest forms
+abbrev pub IsResultOf : (Quotient → Quotient → Quotient) → (Quotient → Type 0) → (Quotient → Type 0) → Quotient → Type 0
+IsResultOf op A B r = (a : Quotient) × (b : Quotient) × A a × B b × IsLowestOf (op a b) r
 
--- the left side less the right
-abbrev pub sides_of : List Name → Expr → Expr → Quotient
-sides_of ns u v = difference_of_quotients (quotient_of ns u) (quotient_of ns v)
+-- the opposite as an operation on the one that is taken from 0
+abbrev pub opposite_of_quotient : Quotient → Quotient
+opposite_of_quotient q = difference_of_quotients (over [] 1) q
+
+-- the lowest form of a power, one factor after the other
+abbrev pub IsPowerOf : Quotient → ℕ → Quotient → Type 0
+IsPowerOf a zero r = IsLowestOf (over (constant_of (pos 1)) 1) r
+IsPowerOf a (suc k) r = (b : Quotient) × IsPowerOf a k b × IsLowestOf (product_of_quotients b a) r
+
+-- the lowest form of the polynomial over a number that an expression is
+abbrev pub IsFormOf : List Name → Expr → Quotient → Type 0
+IsFormOf ns (number q) r = IsLowestOf (over (constant_of q.num) (den q)) r
+IsFormOf ns (symbol x) r = IsLowestOf (over (symbol_of (place_of x ns)) 1) r
+IsFormOf ns (sum u v) r = IsResultOf sum_of_quotients (IsFormOf ns u) (IsFormOf ns v) r
+IsFormOf ns (difference u v) r = IsResultOf difference_of_quotients (IsFormOf ns u) (IsFormOf ns v) r
+IsFormOf ns (opposite u) r = (a : Quotient) × IsFormOf ns u a × IsLowestOf (opposite_of_quotient a) r
+IsFormOf ns (product u v) r = IsResultOf product_of_quotients (IsFormOf ns u) (IsFormOf ns v) r
+IsFormOf ns (power u k) r = (a : Quotient) × IsFormOf ns u a × IsPowerOf a k r
 
 -- a comparison is the sign condition on the polynomial of the lowest form of left less right
 abbrev pub IsComparison : List Name → Expr → Rel → Expr → Formula → Type 0
-IsComparison ns u rel v F = (q : Quotient) × IsLowestOf (sides_of ns u v) q × IsAtomOf q.top (signs_of rel) F
+IsComparison ns u rel v F = (q : Quotient) × IsFormOf ns (difference u v) q × IsAtomOf q.top (signs_of rel) F
 
 -- the formula of a claim in normal form; no other claim has one
 abbrev mutual

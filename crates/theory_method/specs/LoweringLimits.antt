@@ -1,24 +1,35 @@
 -- When the polynomials on the way to a lowered formula pass a limit, and which names must be listed.
 -- Source: this project's own.
-use Rattle.std.specs.Prelude.{ℕ, ◌<◌, ◌≤◌, ◌⊎◌, List, length}
+use Rattle.std.specs.Prelude.{ℕ, zero, suc, ◌<◌, ◌⊎◌, List, length, pos}
+use Rattle.theory_meaning.specs.Fraction.{den}
 use Rattle.theory_meaning.specs.Point.{Name}
+use Rattle.theory_method.specs.Polynomial.{constant_of, symbol_of}
 use Rattle.theory_meaning.specs.Tree.{Expr, number, symbol, sum, difference, opposite, product, power, Claim, Claims, always, never, atom, negation, conjunction, disjunction, implication, equivalence, none, more, claims_from}
-use Rattle.theory_method.specs.RationalPolynomial.{IsQuotientBeyond}
-use Rattle.theory_method.specs.Lowered.{place_of, quotient_of, power_of_quotient, sides_of}
+use Rattle.theory_method.specs.RationalPolynomial.{Quotient, IsQuotientBeyond, sum_of_quotients, difference_of_quotients, product_of_quotients}
+use Rattle.theory_method.specs.Lowered.{place_of, over, opposite_of_quotient, IsPowerOf, IsFormOf}
+
+-- the lowest form of what an operation gives for two lowest forms passes a limit
+abbrev pub IsBeyondBy : (Quotient → Quotient → Quotient) → (Quotient → Type 0) → (Quotient → Type 0) → Type 0
+IsBeyondBy op A B = (a : Quotient) × (b : Quotient) × A a × B b × IsQuotientBeyond (op a b)
+
+-- the lowest form of a power passes a limit, or that of a lower power
+abbrev pub IsWidePower : Quotient → ℕ → Type 0
+IsWidePower a zero = ⊥
+IsWidePower a (suc k) = IsWidePower a k ⊎ ((b : Quotient) × IsPowerOf a k b × IsQuotientBeyond (product_of_quotients b a))
 
 -- the lowest form of some node passes a limit, or that of an intermediate power
 abbrev pub IsWideExpr : List Name → Expr → Type 0
-IsWideExpr ns (number q) = IsQuotientBeyond (quotient_of ns (number q))
-IsWideExpr ns (symbol x) = IsQuotientBeyond (quotient_of ns (symbol x))
-IsWideExpr ns (sum u v) = IsWideExpr ns u ⊎ (IsWideExpr ns v ⊎ IsQuotientBeyond (quotient_of ns (sum u v)))
-IsWideExpr ns (difference u v) = IsWideExpr ns u ⊎ (IsWideExpr ns v ⊎ IsQuotientBeyond (quotient_of ns (difference u v)))
-IsWideExpr ns (opposite u) = IsWideExpr ns u ⊎ IsQuotientBeyond (quotient_of ns (opposite u))
-IsWideExpr ns (product u v) = IsWideExpr ns u ⊎ (IsWideExpr ns v ⊎ IsQuotientBeyond (quotient_of ns (product u v)))
-IsWideExpr ns (power u k) = IsWideExpr ns u ⊎ ((j : ℕ) × (j ≤ k) × IsQuotientBeyond (power_of_quotient (quotient_of ns u) j))
+IsWideExpr ns (number q) = IsQuotientBeyond (over (constant_of q.num) (den q))
+IsWideExpr ns (symbol x) = IsQuotientBeyond (over (symbol_of (place_of x ns)) 1)
+IsWideExpr ns (sum u v) = IsWideExpr ns u ⊎ (IsWideExpr ns v ⊎ IsBeyondBy sum_of_quotients (IsFormOf ns u) (IsFormOf ns v))
+IsWideExpr ns (difference u v) = IsWideExpr ns u ⊎ (IsWideExpr ns v ⊎ IsBeyondBy difference_of_quotients (IsFormOf ns u) (IsFormOf ns v))
+IsWideExpr ns (opposite u) = IsWideExpr ns u ⊎ ((a : Quotient) × IsFormOf ns u a × IsQuotientBeyond (opposite_of_quotient a))
+IsWideExpr ns (product u v) = IsWideExpr ns u ⊎ (IsWideExpr ns v ⊎ IsBeyondBy product_of_quotients (IsFormOf ns u) (IsFormOf ns v))
+IsWideExpr ns (power u k) = IsWideExpr ns u ⊎ ((a : Quotient) × IsFormOf ns u a × IsWidePower a k)
 
 -- a node of a side passes a limit, or left less right does
 abbrev pub IsWideAtom : List Name → Expr → Expr → Type 0
-IsWideAtom ns u v = IsWideExpr ns u ⊎ (IsWideExpr ns v ⊎ IsQuotientBeyond (sides_of ns u v))
+IsWideAtom ns u v = IsWideExpr ns (difference u v)
 
 -- some atom is wide, wherever it stands
 abbrev mutual

@@ -3,3 +3,5 @@ pub use Rattle.theory_method.specs.Formula
 pub use Rattle.theory_method.specs.SignCondition
 pub mod Condition
 pub mod Plain
+pub mod Combined
+pub mod Lowering

@@ -8,10 +8,14 @@
 mod atom;
 mod claims;
 mod copying;
+mod counting;
+mod fault;
 mod formula;
+mod lowering;
 mod making;
 mod negation;
 mod polynomials;
+mod quotients;
 #[cfg(test)]
 mod rows;
 #[cfg(test)]
@@ -19,7 +23,9 @@ mod tests;
 
 pub use atom::Atom;
 pub use claims::claim_of;
+pub use fault::LowerFault;
 pub use formula::{Formula, Formulas};
+pub use lowering::lower;
 pub use making::make_atom;
 pub use negation::negate;
 pub use theory_method::Signs;

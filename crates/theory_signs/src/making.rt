@@ -28,7 +28,7 @@ pub fn make_atom(alloc: Global, poly: &Poly, signs: Signs) -> Result<Formula, No
     }
 }
 
-fn decision(truth: bool) -> Formula
+pub fn decision(truth: bool) -> Formula
     ensures { formula_of result ≡ decided truth }
 {
     if truth { Formula::True } else { Formula::False }
