@@ -5,7 +5,7 @@ use Rattle.std.proofs.lemmas.Int.{ints}
 use Rattle.std.specs.Prelude.{int_lt}
 use Rattle.std.specs.Ordering.{int_eq}
 use Rattle.theory_meaning.specs.Fraction.{Fraction, den, cross, whole, IsSame, IsBelow, same, below}
-use Rattle.theory_meaning.proofs.WholeLaws.{Scales, int_lt_scales, int_gt_scales, int_eq_scales, times-swap, sum-times, lt_scaled, lt_from_test, test_from_lt, le_from_test, test_from_le}
+use Rattle.theory_meaning.proofs.WholeLaws.{Scales, int_lt_scales, int_gt_scales, int_eq_scales, times-swap, sum-times, lt_scaled, lt_from_test, test_from_lt}
 
 -- the tests and the facts that they decide
 pub below_from_fact : (q r : Fraction) → IsBelow q r → below q r ≡ true

@@ -5,6 +5,10 @@ pub mod Tree
 pub mod Truth
 pub mod Identifier
 pub mod Text
+pub mod Declarations
+pub mod ModelFault
+pub mod Edit
+pub mod Wide
 pub mod Half
 pub mod Verdict
 pub mod Faults

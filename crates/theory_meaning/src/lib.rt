@@ -2,7 +2,7 @@
 //! claims and lines, their values and truth, right halves and right verdicts.
 //!
 //! The definitions stand in `specs/`, in plain data. Nothing of the product's code is used or repeated
-//! here; the three enums below have no fields, and the product shares them. `slow` is a program that
+//! here; the enums below have no fields, and the product shares them. `slow` is a program that
 //! computes values and truth as they are defined, and no more than that.
 #![tactic(auto)]
 
@@ -17,4 +17,4 @@ pub use laws::{
     implication_fails_only_from_true_to_false, missing_name_is_zero, one_half_is_an_example,
     one_third_is_a_counterexample, power_is_a_product, right_halves_give_the_right_verdict,
 };
-pub use words::{Rel, Sign, Verdict};
+pub use words::{ModelKind, Rel, Sign, Verdict};

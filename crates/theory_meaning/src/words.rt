@@ -31,3 +31,26 @@ pub enum Verdict {
     /// The method got stuck or passed a stated limit.
     Undecided,
 }
+
+/// Why a list of lines is no model, in the order in which the kinds are looked for.
+#[derive(Clone, Copy, Debug, PartialEq, Eq)]
+pub enum ModelKind {
+    /// The first line is no model line, or a later one is.
+    ModelLine,
+    /// An earlier line has the same name or label.
+    KeyTwice,
+    /// A name in the line is declared nowhere.
+    UnknownName,
+    /// An argument, a slope or a derivative doesn't fit what is declared, or an equation holds a slope.
+    BadArgument,
+    /// A derivative stands where no parameter is shifted.
+    NoShift,
+    /// The shifted name is declared, but not as a parameter.
+    NotParam,
+    /// A claim has more than 32 listed symbols.
+    TooManySymbols,
+    /// There are more than 200 lines.
+    TooManyLines,
+    /// Want of memory; no line has it.
+    Memory,
+}

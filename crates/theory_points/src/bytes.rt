@@ -153,4 +153,15 @@ impl Names {
         self.items.push(name)?;
         Ok(())
     }
+
+    /// An equal list.
+    pub fn copy(&self, alloc: Global) -> Result<Self, NoMemory>
+        ensures { IfOk result (λ names. names ≡ self.now) }
+    {
+        let mut copies = Names::new(alloc);
+        for name in self.as_slice() {
+            copies.push(name.copy(alloc)?)?;
+        }
+        Ok(copies)
+    }
 }

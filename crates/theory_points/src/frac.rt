@@ -44,6 +44,13 @@ impl Frac {
         Frac { num: 0, den: 1 }
     }
 
+    /// The fraction 1.
+    pub fn one() -> Frac
+        ensures { result ≡ whole (pos 1) }
+    {
+        Frac { num: 1, den: 1 }
+    }
+
     /// The fraction `n / d` in lowest terms; None where `d` is 0 or a part then passes 2^58.
     pub fn new(n: i128, d: i128) -> Option<Frac>
         ensures value { MatchOption result (IsWideQuotient n d) (IsQuotient n d) }

@@ -45,6 +45,10 @@ claim_of = fold-Claim plain.Claim claim_step
 abbrev pub claims_of : List Claim → List plain.Claim
 claims_of = map claim_of
 
+-- the members of a conjunction or a disjunction
+abbrev pub members_of : List Claim → plain.Claims
+members_of cs = plain.claims_from (claims_of cs)
+
 -- a line
 abbrev pub line_of : source.Line → plain.Line
 line_of (source.TheVariants.Model name) = plain.model name

@@ -5,12 +5,17 @@
 #![tactic(auto)]
 
 mod claim;
+mod copying;
 mod expr;
 mod line;
+#[cfg(test)]
+mod tests;
 mod text;
+mod truth;
 
 pub use claim::{Claim, Claims, Sentence};
 pub use expr::Expr;
 pub use line::Line;
 pub use text::{Lines, Numbered, Op, Ops};
 pub use theory_meaning::Rel;
+pub use truth::truth_at;

@@ -1,4 +1,4 @@
-use Rattle.std.proofs.Common.{◌≡◌, Some, None, arith, sym, ap, ◌∙◌}
+use Rattle.std.proofs.Common.{◌≡◌, Some, None, arith, ap, ◌∙◌}
 use Rattle.theory_points.specs.Changes.{place_in}
 use Rattle.theory_points.proofs.point.Point.set.Goals as goal
 use Rattle.theory_points.proofs.PointLemmas.{written_at, within_place, added_at}

@@ -1,0 +1,4 @@
+pub mod KeyedLemmas
+pub mod FaultLemmas
+pub mod ChangeLemmas
+pub mod EditLemmas
