@@ -1,2 +1,4 @@
 pub mod Token
+pub mod Spelled
+pub mod LineFault
 pub mod Printed

@@ -6,4 +6,4 @@
 
 mod words;
 
-pub use words::{Keyword, Mark};
+pub use words::{Keyword, LineFaultKind, Mark};
