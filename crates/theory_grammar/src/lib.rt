@@ -4,6 +4,11 @@
 //! here; the enums below have no fields, and the product shares them.
 #![tactic(auto)]
 
+mod laws;
 mod words;
 
+pub use laws::{
+    literals_are_in_lowest_terms, tokens_spell_one_edit_or_fail_once,
+    tokens_spell_one_line_or_fail_once,
+};
 pub use words::{Keyword, LineFaultKind, Mark};

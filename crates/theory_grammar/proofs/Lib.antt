@@ -1,0 +1,15 @@
+pub mod Machine
+pub mod Following
+pub mod FaultLaws
+pub mod Agreeing
+pub mod Closing
+pub mod Reached
+pub mod Ends
+pub mod Sound
+pub mod SoundLines
+pub mod Taken
+pub mod TakenClaims
+pub mod LineLaws
+pub mod OpMachine
+pub mod OpLaws
+pub mod LowestLaws
