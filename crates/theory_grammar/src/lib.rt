@@ -4,6 +4,10 @@
 //! here; the enums below have no fields, and the product shares them.
 #![tactic(auto)]
 
+mod laws_scan;
+mod unreadable;
 mod words;
 
+pub use laws_scan::each_line_is_read_in_one_way;
+pub use unreadable::Unreadable;
 pub use words::{Keyword, Mark};
