@@ -5,9 +5,11 @@
 #![tactic(auto)]
 
 mod laws_scan;
+mod text_kind;
 mod unreadable;
 mod words;
 
 pub use laws_scan::each_line_is_read_in_one_way;
+pub use text_kind::TextKind;
 pub use unreadable::Unreadable;
-pub use words::{Keyword, Mark};
+pub use words::{Keyword, LineFaultKind, Mark};
