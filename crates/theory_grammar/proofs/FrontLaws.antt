@@ -66,10 +66,10 @@ front_digit b bs h =
     let filled = some_digits r.run r.rest (ap (first_passes is_digit) (sym r.is.whole) ∙ h) r.is.ends in
     some (digits r.run) r.rest (digits_longest r.run r.rest (b ∷ bs) filled r.is.pass r.is.ends r.is.whole)
 
-one_byte : (b n : ℕ) (bs : List ℕ) → b ≡ n → b ∷ bs ≡ n ∷ bs
+pub one_byte : (b n : ℕ) (bs : List ℕ) → b ≡ n → b ∷ bs ≡ n ∷ bs
 one_byte b n bs at = ap (λ (m : ℕ). m ∷ bs) at
 
-two_bytes : (b n : ℕ) (bs rest : List ℕ) → b ≡ n → bs ≡ 61 ∷ rest → b ∷ bs ≡ n ∷ 61 ∷ rest
+pub two_bytes : (b n : ℕ) (bs rest : List ℕ) → b ≡ n → bs ≡ 61 ∷ rest → b ∷ bs ≡ n ∷ 61 ∷ rest
 two_bytes b n bs rest at behind = cc
 
 -- the signs of comparisons, by what follows their first byte
@@ -142,7 +142,7 @@ some_bytes (comparison Le) h = omega arith
 some_bytes (comparison Gt) h = omega arith
 some_bytes (comparison Ge) h = omega arith
 
-shorter_rest : (x : Lexeme) (rest bytes : List ℕ) → IsLongest x rest bytes → length rest < length bytes
+pub shorter_rest : (x : Lexeme) (rest bytes : List ℕ) → IsLongest x rest bytes → length rest < length bytes
 shorter_rest x rest bytes h =
     let long : length bytes ≡ length (spelling x) + length rest = ap length h.whole ∙ length-append (spelling x) rest in
     let some = some_bytes x h.lexeme in
