@@ -13,3 +13,9 @@ pub mod LineLaws
 pub mod OpMachine
 pub mod OpLaws
 pub mod LowestLaws
+pub mod RunLaws
+pub mod LexemeLaws
+pub mod LongestLaws
+pub mod ComparisonLaws
+pub mod ScanLaws
+pub mod FrontLaws

@@ -1,4 +1,8 @@
 pub mod Token
+pub mod Scan
+pub mod Runs
 pub mod Spelled
 pub mod LineFault
 pub mod Printed
+pub mod TextFault
+pub mod OneLine
