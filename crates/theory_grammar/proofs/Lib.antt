@@ -19,3 +19,10 @@ pub mod LongestLaws
 pub mod ComparisonLaws
 pub mod ScanLaws
 pub mod FrontLaws
+pub mod LeadLaws
+pub mod MeantLaws
+pub mod ExprLevels
+pub mod PrintedExprs
+pub mod ClaimLevels
+pub mod PrintedClaims
+pub mod PrintedLines

@@ -13,7 +13,7 @@ euclid_is_gcd zero a b h = absurd (omega arith)
 euclid_is_gcd (suc steps) a zero h = IsGcd-from_zero a zero refl
 euclid_is_gcd (suc steps) a (suc b) h = IsGcd-from_mod a (suc b) (euclid steps (suc b) (a % suc b)) (euclid_is_gcd steps (suc b) (a % suc b) (omega arith))
 
-is_gcd : (a b : ℕ) → IsGcd a b (common_divisor a b)
+pub is_gcd : (a b : ℕ) → IsGcd a b (common_divisor a b)
 is_gcd a b = euclid_is_gcd (suc b) a b (omega arith)
 
 -- what is left has no common divisor but 1

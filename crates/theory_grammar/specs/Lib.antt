@@ -6,3 +6,4 @@ pub mod LineFault
 pub mod Printed
 pub mod TextFault
 pub mod OneLine
+pub mod RoundTrip

@@ -2,11 +2,12 @@
 use Rattle.std.specs.Prelude.{ℕ, zero, suc, ◌+◌, pos, Bool, true, false, not, ◌&&◌, ◌==◌, int_lt, List, [], ◌∷◌, ◌++◌, Option, None, Some, codes, decimal}
 use Rattle.std.specs.Fmt.{signed_decimal}
 use Rattle.theory_meaning.specs.declared.words.Rel.{Rel}
-use Rattle.theory_meaning.specs.declared.words.Rel.TheVariants.{Eq, Ne, Lt, Le, Gt, Ge}
+use Rattle.theory_meaning.specs.declared.words.Rel.TheVariants.{Eq}
 use Rattle.theory_meaning.specs.Fraction.{Fraction}
 use Rattle.theory_meaning.specs.Point.{Name}
 use Rattle.theory_meaning.specs.Tree.{Expr, number, symbol, sum, difference, opposite, product, power, Claim, always, never, atom, negation, conjunction, disjunction, implication, equivalence, Claims, none, more, Line, model, var, param, function, equation, assume, claim}
 use Rattle.theory_meaning.specs.Text.{Op, put_line, drop_key}
+use Rattle.theory_grammar.specs.Scan.{relation_bytes}
 
 -- the denominator behind a slash, or nothing for a whole number
 abbrev pub below_text : ℕ → List ℕ
@@ -55,17 +56,9 @@ expr_text (opposite u) = codes "-" ++ round_unless (is_factor u) (expr_text u)
 expr_text (product u v) = round_unless (is_term u) (expr_text u) ++ codes "*" ++ round_unless (is_factor v) (expr_text v)
 expr_text (power u k) = round_unless (is_primary u) (expr_text u) ++ codes "^" ++ decimal k
 
-abbrev pub rel_text : Rel → List ℕ
-rel_text Eq = codes "="
-rel_text Ne = codes "!="
-rel_text Lt = codes "<"
-rel_text Le = codes "<="
-rel_text Gt = codes ">"
-rel_text Ge = codes ">="
-
 -- two sides with a relation between them
 abbrev pub sides_text : Expr → Rel → Expr → List ℕ
-sides_text u rel v = expr_text u ++ codes " " ++ rel_text rel ++ codes " " ++ expr_text v
+sides_text u rel v = expr_text u ++ codes " " ++ relation_bytes rel ++ codes " " ++ expr_text v
 
 -- a claim that stands as a member of a conjunction, or behind `not`
 abbrev pub is_neg : Claim → Bool

@@ -5,6 +5,7 @@
 #![tactic(auto)]
 
 mod laws;
+mod laws_printed;
 mod laws_scan;
 mod text_kind;
 mod unreadable;
@@ -14,6 +15,7 @@ pub use laws::{
     literals_are_in_lowest_terms, tokens_spell_one_edit_or_fail_once,
     tokens_spell_one_line_or_fail_once,
 };
+pub use laws_printed::printed_forms_spell_the_same;
 pub use laws_scan::each_line_is_read_in_one_way;
 pub use text_kind::TextKind;
 pub use unreadable::Unreadable;

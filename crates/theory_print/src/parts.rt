@@ -1,6 +1,7 @@
 ghost use Rattle.std.specs.Prelude.{◌≡◌, ◌++◌, OnOk, codes, decimal};
 ghost use Rattle.std.specs.Fmt.{signed_decimal};
-ghost use Rattle.theory_grammar.specs.Printed.{fraction_text, unless, rel_text};
+ghost use Rattle.theory_grammar.specs.Printed.{fraction_text, unless};
+ghost use Rattle.theory_grammar.specs.Scan.{relation_bytes};
 
 use std::alloc::Global;
 use theory_points::{Bytes, Frac, NoMemory};
@@ -43,7 +44,7 @@ pub fn add_number(alloc: Global, text: &mut Bytes, number: u64) -> Result<(), No
 
 /// Appends a relation with a blank on each side.
 pub fn add_relation(text: &mut Bytes, rel: Rel) -> Result<(), NoMemory>
-    ensures { OnOk result (text.new ≡ text.old ++ codes " " ++ rel_text rel ++ codes " ") }
+    ensures { OnOk result (text.new ≡ text.old ++ codes " " ++ relation_bytes rel ++ codes " ") }
 {
     text.extend(b" ")?;
     text.extend(rel_sign(rel))?;
@@ -51,7 +52,7 @@ pub fn add_relation(text: &mut Bytes, rel: Rel) -> Result<(), NoMemory>
 }
 
 fn rel_sign(rel: Rel) -> &'static [u8]
-    ensures { result.now ≡ rel_text rel }
+    ensures { result.now ≡ relation_bytes rel }
 {
     match rel {
         Rel::Eq => b"=",
