@@ -4,3 +4,8 @@ pub mod LongestLaws
 pub mod ComparisonLaws
 pub mod ScanLaws
 pub mod FrontLaws
+pub mod LineOutcomes
+pub mod LineFaultLaws
+pub mod TextOutcomes
+pub mod TextLaws
+pub mod OneLineLaws

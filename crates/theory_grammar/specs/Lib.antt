@@ -5,3 +5,4 @@ pub mod Spelled
 pub mod LineFault
 pub mod TextFault
 pub mod OneLine
+pub mod Texts
