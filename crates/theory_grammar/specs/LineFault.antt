@@ -1,5 +1,5 @@
 -- The first fault of the tokens of a line. docs/MODEL_TEXT.md has the kinds in words.
-use Rattle.std.specs.Prelude.{◌≡◌, ℕ, false, List, [], ◌∷◌, ◌++◌, length}
+use Rattle.std.specs.Prelude.{◌≡◌, ◌⊎◌, ℕ, false, List, [], ◌∷◌, ◌++◌, length}
 use Rattle.theory_grammar.specs.declared.words.LineFaultKind.{LineFaultKind}
 use Rattle.theory_grammar.specs.declared.words.LineFaultKind.TheVariants.{Unexpected, ZeroBelow, Exponent, Deep}
 use Rattle.theory_grammar.specs.Token.{Token}
@@ -36,3 +36,21 @@ pub record FirstFault {T : Type 0} (Spells : Grammar T) (tokens : List Token) (k
   pub so_far : CanGoOn Spells every before
   pub stops : ¬ (TakesNext Spells every before rest)
   pub why : IsKind Spells kind before rest
+
+-- tokens spell at most one tree
+abbrev pub IsUnambiguous : {T : Type 0} → Grammar T → Type 0
+IsUnambiguous {T = T} Spells = (tokens : List Token) (x y : T) → Spells every tokens x → Spells every tokens y → x ≡ y
+
+-- tokens spell a tree or have a first fault
+abbrev pub SpellsOrFails : {T : Type 0} → Grammar T → Type 0
+SpellsOrFails {T = T} Spells =
+    (tokens : List Token) → ((x : T) × Spells every tokens x) ⊎ ((kind : LineFaultKind) × (place : ℕ) × FirstFault Spells tokens kind place)
+
+-- never both
+abbrev pub NeverBoth : {T : Type 0} → Grammar T → Type 0
+NeverBoth {T = T} Spells = (tokens : List Token) (x : T) (kind : LineFaultKind) (place : ℕ) → Spells every tokens x → ¬ (FirstFault Spells tokens kind place)
+
+-- and they have at most one first fault
+abbrev pub HasOneFault : {T : Type 0} → Grammar T → Type 0
+HasOneFault Spells =
+    (tokens : List Token) (kind other : LineFaultKind) (place elsewhere : ℕ) → FirstFault Spells tokens kind place → FirstFault Spells tokens other elsewhere → (kind ≡ other) × (place ≡ elsewhere)

@@ -1,8 +1,9 @@
 -- The lines and edits that tokens spell, rule by rule. docs/MODEL_TEXT.md has the rules in words.
-use Rattle.std.specs.Prelude.{ℕ, zero, suc, ◌-◌, ◌/◌, ◌%◌, pos, Bool, true, false, not, ◌&&◌, ◌||◌, nat_le, nat_lt, List, [], ◌∷◌, ◌++◌, map, None, Some, IsTrue, codes}
+use Rattle.std.specs.Prelude.{◌≡◌, ◌*ℤ◌, ℕ, zero, suc, ◌-◌, ◌/◌, ◌%◌, pos, Bool, true, false, not, ◌&&◌, ◌||◌, nat_le, nat_lt, List, [], ◌∷◌, ◌++◌, map, None, Some, IsTrue, codes}
 use Rattle.theory_meaning.specs.declared.words.Rel.{Rel}
 use Rattle.theory_meaning.specs.declared.words.Rel.TheVariants as rel
-use Rattle.theory_meaning.specs.Fraction.{Fraction, whole}
+use Rattle.theory_meaning.specs.Fraction.{Fraction, whole, den}
+use Rattle.theory_meaning.specs.Limits.{IsReduced}
 use Rattle.theory_meaning.specs.Point.{Name}
 use Rattle.theory_meaning.specs.Tree.{Expr, Claim, Line, claims_from}
 use Rattle.theory_meaning.specs.Tree as plain
@@ -49,6 +50,11 @@ common_divisor a b = euclid (suc b) a b
 -- n over d in lowest terms
 unfoldable pub lowest : ℕ → ℕ → Fraction
 lowest n d = record { num = pos (n / common_divisor n d); less = d / common_divisor n d - 1 }
+
+-- the fraction is the number n over d, in lowest terms
+pub record IsLowest (n d : ℕ) (q : Fraction) : Type 0 where
+  pub same : q.num *ℤ pos d ≡ pos n *ℤ pos (den q)
+  pub reduced : IsReduced q
 
 -- the levels of expressions
 pub data Level : Type 0 where

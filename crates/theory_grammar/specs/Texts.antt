@@ -1,5 +1,5 @@
 -- Model texts, edit texts and single lines: what bytes spell, and their first fault.
-use Rattle.std.specs.Prelude.{ℕ, List, Option}
+use Rattle.std.specs.Prelude.{◌≡◌, ◌⊎◌, ℕ, List, Option}
 use Rattle.theory_meaning.specs.Tree.{Line}
 use Rattle.theory_meaning.specs.Text.{Numbered, Op}
 use Rattle.theory_grammar.specs.Spelled.{IsLine, IsOp}
@@ -36,3 +36,15 @@ SpellsOneLine = SpellsLine IsLine
 -- the first fault of one line
 abbrev pub IsFirstLineFault : List ℕ → Fault → Type 0
 IsFirstLineFault = OneLineFails IsLine
+
+-- bytes stand for at most one
+abbrev pub IsOnce : {X : Type 0} → (List ℕ → X → Type 0) → Type 0
+IsOnce {X = X} Stands = (bytes : List ℕ) (x y : X) → Stands bytes x → Stands bytes y → x ≡ y
+
+-- bytes stand for something or have a fault
+abbrev pub IsSome : {X : Type 0} → (List ℕ → X → Type 0) → (List ℕ → Fault → Type 0) → Type 0
+IsSome {X = X} Stands Fails = (bytes : List ℕ) → ((x : X) × Stands bytes x) ⊎ ((f : Fault) × Fails bytes f)
+
+-- never both
+abbrev pub IsNeverBoth : {X : Type 0} → (List ℕ → X → Type 0) → (List ℕ → Fault → Type 0) → Type 0
+IsNeverBoth {X = X} Stands Fails = (bytes : List ℕ) (x : X) (f : Fault) → Stands bytes x → ¬ (Fails bytes f)
