@@ -117,7 +117,7 @@ module _ (limits : Limits) where
   closes (m.operand p o ctx) = let e = closed_ends (plain.symbol (codes "x")) p o ctx in (name (codes "x") ∷ expr_end o ctx, e.0, e.1)
   closes (m.integer n p o ctx) =
       let e = moved (m.integer n p o ctx) (m.closed (plain.number (whole (pos n))) p o ctx) (expr_end o ctx) (integer_same n p o ctx) (closed_ends
-          (plain.number (whole (pos n))) p o ctx) in
+      (plain.number (whole (pos n))) p o ctx) in
       (expr_end o ctx, e.0, e.1)
   closes (m.closed x p o ctx) = let e = closed_ends x p o ctx in (expr_end o ctx, e.0, e.1)
   closes (m.exponent x p o ctx) =

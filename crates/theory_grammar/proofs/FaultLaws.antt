@@ -41,7 +41,7 @@ module _ {S T : Type 0} {Spells : Grammar T} {start : S} {step : Step S} {ended 
   same_way limits [] st st' e = e
   same_way limits (t ∷ ts) st st' e =
       elim (step every st t) as (λ m. Agrees m (λ l. step l st t) → and_then m (λ s. after step every s ts) Err ≡ Ok st'
-          → and_then (step limits st t) (λ s. after step limits s ts) Err ≡ Ok st') [
+      → and_then (step limits st t) (λ s. after step limits s ts) Err ≡ Ok st') [
         | Ok s ↦ λ agrees e'. ap (λ (m : Result S LineFaultKind). and_then m (λ s'. after step limits s' ts) Err) (agrees limits)
             ∙ same_way limits ts s st' e'
         | Err k ↦ λ agrees e'. absurd cc
@@ -59,7 +59,7 @@ module _ {S T : Type 0} {Spells : Grammar T} {start : S} {step : Step S} {ended 
       subst (λ (s : S). Reached limits s (before ++ [])) same (subst (λ (ts : List Token). Reached limits st ts) (sym (append-nil before)) r)
   reached limits (t ∷ ts) st st' before r e =
       elim (step limits st t) as (λ m. Goes (Reached limits) (before ++ t ∷ []) m → and_then m (λ s. after step limits s ts) Err ≡ Ok st'
-          → Reached limits st' (before ++ t ∷ ts)) [
+      → Reached limits st' (before ++ t ∷ ts)) [
         | Ok s ↦ λ goes e'. subst (λ (us : List Token). Reached limits st' us) (append_assoc before (t ∷ []) ts) (reached limits ts s st'
             (before ++ t ∷ []) goes e')
         | Err k ↦ λ goes e'. absurd cc
@@ -76,7 +76,7 @@ module _ {S T : Type 0} {Spells : Grammar T} {start : S} {step : Step S} {ended 
       ap (λ (s : S). and_then (step limits s t) (λ s'. Ok s') Err) same ∙ ap (λ (m : Result S LineFaultKind). and_then m (λ s'. Ok s') Err) h
   one_more limits (u ∷ us) t st0 st st' e h =
       elim (step limits st0 u) as (λ m. and_then m (λ s. after step limits s us) Err ≡ Ok st
-          → and_then m (λ s. after step limits s (us ++ t ∷ [])) Err ≡ Ok st') [
+      → and_then m (λ s. after step limits s (us ++ t ∷ [])) Err ≡ Ok st') [
         | Ok s ↦ λ e'. one_more limits us t s st st' e' h
         | Err k ↦ λ e'. absurd cc
       ] e
@@ -107,13 +107,13 @@ module _ {S T : Type 0} {Spells : Grammar T} {start : S} {step : Step S} {ended 
       → Next step ended limits st rest
   next limits before [] st e h =
       let all : runs step ended limits start (before ++ []) ≡ Some h.0 =
-          subst (λ (ts : List Token). runs step ended limits start ts ≡ Some h.0) (sym (append-nil before)) (laws.takes limits before h.0 h.1) in
+      subst (λ (ts : List Token). runs step ended limits start ts ≡ Some h.0) (sym (append-nil before)) (laws.takes limits before h.0 h.1) in
       let s = split step ended limits before start [] h.0 all in
       (h.0, ap ended (same_state limits before st s.0 e s.1) ∙ s.2)
   next limits before (t ∷ rest) st e h =
       let all : runs step ended limits start (before ++ t ∷ h.more) ≡ Some h.tree =
       subst (λ (ts : List Token). runs step ended limits start ts ≡ Some h.tree) (append_assoc before (t ∷ []) h.more) (laws.takes limits
-          ((before ++ t ∷ []) ++ h.more) h.tree h.spelled) in
+      ((before ++ t ∷ []) ++ h.more) h.tree h.spelled) in
       let s = split step ended limits before start (t ∷ h.more) h.tree all in
       let f = first_step step ended limits s.0 t h.more h.tree s.2 in
       (f.0, ap (λ (q : S). step limits q t) (same_state limits before st s.0 e s.1) ∙ f.1)
@@ -214,7 +214,7 @@ module _ {S T : Type 0} {Spells : Grammar T} {start : S} {step : Step S} {ended 
       ] refl
   stuck_at st (t ∷ rest) h n =
       elim (step every st t) as (λ m. step every st t ≡ m
-          → (kind : LineFaultKind) × (and_then m (λ s. reads step ended (suc n) s rest) (λ k. fault k n) ≡ fault kind n) × (m ≡ Err kind)) [
+      → (kind : LineFaultKind) × (and_then m (λ s. reads step ended (suc n) s rest) (λ k. fault k n) ≡ fault kind n) × (m ≡ Err kind)) [
         | Ok s ↦ λ eq. absurd (h (s, eq))
         | Err k ↦ λ eq. (k, refl, refl)
       ] refl
@@ -224,13 +224,13 @@ module _ {S T : Type 0} {Spells : Grammar T} {start : S} {step : Step S} {ended 
       → reads step ended 0 start tokens ≡ fault kind place
   first_is_fault tokens kind place f =
       let all : runs step ended every start (f.before ++ f.so_far.more) ≡ Some f.so_far.tree =
-          laws.takes every (f.before ++ f.so_far.more) f.so_far.tree f.so_far.spelled in
+      laws.takes every (f.before ++ f.so_far.more) f.so_far.tree f.so_far.spelled in
       let s = split step ended every f.before start f.so_far.more f.so_far.tree all in
       let stuck = stuck_at s.0 f.rest (λ n. f.stops (taken every f.before f.rest s.0 s.1 n)) (0 + length f.before) in
       let same : stuck.0 ≡ kind = only_kind f.before f.rest s.0 stuck.0 kind s.1 stuck.2 f.why in
       let place_is : 0 + length f.before ≡ place = omega (arith, f.counted) in
       ap (reads step ended 0 start) f.parts ∙ along step ended f.before start s.0 f.rest 0 s.1 ∙ stuck.1
-          ∙ ap (λ (k : LineFaultKind). fault k (0 + length f.before)) same ∙ ap (fault kind) place_is
+      ∙ ap (λ (k : LineFaultKind). fault k (0 + length f.before)) same ∙ ap (fault kind) place_is
 
   -- what reading gives as a tree is spelled
   pub read_is_spelled : (tokens : List Token) (x : T) → reads step ended 0 start tokens ≡ read x → Spells every tokens x

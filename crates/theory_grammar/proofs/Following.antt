@@ -122,7 +122,7 @@ stop step ended [] st n kind place e =
     record { before = []; rest = []; state = st; parts = refl; path = refl; counted = omega (arith, h.2); stuck = (h.0, h.1) }
 stop {S = S} {T = T} step ended (t ∷ ts) st n kind place e =
     elim (step every st t) as (λ m. step every st t ≡ m → and_then m (λ st'. reads step ended (suc n) st' ts) (λ k. fault k n) ≡ fault kind place
-        → Stop step ended st (t ∷ ts) kind n place) [
+    → Stop step ended st (t ∷ ts) kind n place) [
       | Ok st' ↦ λ eq e'.
           let h = stop step ended ts st' (suc n) kind place e' in
           record {
@@ -149,7 +149,7 @@ along step ended [] st st' rest n e =
     rw (none, same) refl
 along {S = S} {T = T} step ended (t ∷ ts) st st' rest n e =
     elim (step every st t) as (λ m. and_then m (λ s. after step every s ts) Err ≡ Ok st'
-        → and_then m (λ s. reads step ended (suc n) s (ts ++ rest)) (λ k. fault k n) ≡ reads step ended (n + suc (length ts)) st' rest) [
+    → and_then m (λ s. reads step ended (suc n) s (ts ++ rest)) (λ k. fault k n) ≡ reads step ended (n + suc (length ts)) st' rest) [
       | Ok s ↦ λ e'.
           let more : suc n + length ts ≡ n + suc (length ts) = omega arith in
           along step ended ts s st' rest (suc n) e' ∙ ap (λ (k : ℕ). reads step ended k st' rest) more

@@ -1,3 +1,14 @@
+pub mod RunLaws
+pub mod LexemeLaws
+pub mod LongestLaws
+pub mod ComparisonLaws
+pub mod ScanLaws
+pub mod FrontLaws
+pub mod LineOutcomes
+pub mod LineFaultLaws
+pub mod TextOutcomes
+pub mod TextLaws
+pub mod OneLineLaws
 pub mod Machine
 pub mod Following
 pub mod FaultLaws
@@ -13,12 +24,6 @@ pub mod LineLaws
 pub mod OpMachine
 pub mod OpLaws
 pub mod LowestLaws
-pub mod RunLaws
-pub mod LexemeLaws
-pub mod LongestLaws
-pub mod ComparisonLaws
-pub mod ScanLaws
-pub mod FrontLaws
 pub mod LeadLaws
 pub mod MeantLaws
 pub mod ExprLevels
@@ -26,3 +31,4 @@ pub mod PrintedExprs
 pub mod ClaimLevels
 pub mod PrintedClaims
 pub mod PrintedLines
+pub mod Outcomes

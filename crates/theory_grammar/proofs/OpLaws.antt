@@ -80,7 +80,7 @@ put_runs : (limits : Limits) (ts : List Token) (st : State)
 put_runs limits [] st = refl
 put_runs limits (t ∷ ts) st =
     elim (line.step limits st t) as (λ m. and_then (within_put m) (λ st'. runs op_step op_ended limits st' ts) (λ kind. None) ≡ put_ended (and_then m
-        (λ st'. runs line.step line.ended limits st' ts) (λ kind. None))) [
+    (λ st'. runs line.step line.ended limits st' ts) (λ kind. None))) [
       | Ok st' ↦ put_runs limits ts st'
       | Err kind ↦ refl
     ]

@@ -85,7 +85,7 @@ module _ (limits : Limits) where
   ClaimOutside h [] d ts = (d ≡ 0) × Heads h ts
   ClaimOutside h (q ∷ qs) d ts =
       (us : List Token) × InClaimPlace (ClaimOutside h qs) q us × IsTrue (has_room limits q.depth) × (d ≡ suc q.depth) ×
-          (ts ≡ us ++ mark sign.OpenSquare ∷ [])
+      (ts ≡ us ++ mark sign.OpenSquare ∷ [])
 
   -- the tokens before an expression outside all brackets
   abbrev pub InContext : Context → ℕ → List Token → Type 0
@@ -95,7 +95,7 @@ module _ (limits : Limits) where
   InContext (left_of_atom h q qs) d ts = (d ≡ q.depth) × InClaimPlace (ClaimOutside h qs) q ts
   InContext (right_of_atom x r h q qs) d ts =
       (us vs : List Token) × (d ≡ q.depth) × InClaimPlace (ClaimOutside h qs) q us × IsExpr limits rule.sum q.depth vs x × (ts ≡ us ++
-          (vs ++ relation r ∷ []))
+      (vs ++ relation r ∷ []))
 
   -- the tokens before an expression with its open brackets
   abbrev pub Outside : List Place → Context → ℕ → List Token → Type 0

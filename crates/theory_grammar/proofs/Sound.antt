@@ -96,7 +96,7 @@ module _ (limits : Limits) where
       let e = ends.tokens limits h q (q' ∷ qs) c before b in
       let own : List Token = b.place.others ++ (b.place.premises ++ (b.place.disjuncts ++ (b.place.conjuncts ++ (b.place.nots ++ b.own)))) in
       let inside : IsClaim limits rule.claim (suc q'.depth) own (m.whole_claim q c) =
-          subst (λ (d : ℕ). IsClaim limits rule.claim d own (m.whole_claim q c)) o.3 (ends.claim limits h q (q' ∷ qs) c before b) in
+      subst (λ (d : ℕ). IsClaim limits rule.claim d own (m.whole_claim q c)) o.3 (ends.claim limits h q (q' ∷ qs) c before b) in
       record {
         front = o.0;
         own = mark sign.OpenSquare ∷ (own ++ mark sign.CloseSquare ∷ []);
@@ -279,8 +279,14 @@ module _ (limits : Limits) where
 
   pub one_power : (p : Place) (o : List Place) (ctx : Context) (x : Expr) (before : List Token) → Behind limits rule.primary p o ctx x before
       → Behind limits rule.factor p o ctx x before
-  one_power p o ctx x before b = record { front = b.front; own = b.own; parts = b.parts; place = b.place; spelled =
-      rule.one_power (rule.one_primary b.spelled) }
+  one_power p o ctx x before b = record {
+    front = b.front;
+    own = b.own;
+    parts = b.parts;
+    place = b.place;
+    spelled =
+        rule.one_power (rule.one_primary b.spelled);
+  }
 
   pub sound_closed : (x : Expr) (p : Place) (o : List Place) (ctx : Context) (t : Token) (before : List Token)
       → Behind limits rule.primary p o ctx x before → Sound (before ++ t ∷ []) (m.after_closed x p o ctx t)
@@ -297,8 +303,12 @@ module _ (limits : Limits) where
 
   pub sound_integer : (n : ℕ) (p : Place) (o : List Place) (ctx : Context) (t : Token) (before : List Token) → HasInteger n p o ctx before
       → Sound (before ++ t ∷ []) (m.after_integer n p o ctx t)
-  sound_integer n p o ctx (mark sign.Over) before b = (b.0, b.1, ap (λ (ts : List Token). ts ++ mark sign.Over ∷ []) b.2
-      ∙ append_assoc b.0 (number n ∷ []) (mark sign.Over ∷ []))
+  sound_integer n p o ctx (mark sign.Over) before b = (
+    b.0,
+    b.1,
+    ap (λ (ts : List Token). ts ++ mark sign.Over ∷ []) b.2
+        ∙ append_assoc b.0 (number n ∷ []) (mark sign.Over ∷ []),
+  )
   sound_integer n p o ctx t before b = sound_closed (plain.number (whole (pos n))) p o ctx t before (integer_closed n p o ctx before b)
 
   -- an exponent and the second number of a fraction literal
@@ -355,8 +365,14 @@ module _ (limits : Limits) where
   pub sound_want : (h : Heading) (q : ClaimPlace) (qs : List ClaimPlace) (t : Token) (before : List Token)
       → InClaimPlace limits (ClaimOutside limits h qs) q before → Sound (before ++ t ∷ []) (m.at_claim limits h q qs t)
   sound_want h q qs (keyword word.True) before b = record { front = before; own = keyword word.True ∷ []; parts = refl; place = b; spelled = rule.truth }
-  sound_want h q qs (keyword word.False) before b = record { front = before; own = keyword word.False ∷ []; parts = refl; place = b; spelled =
-      rule.falsehood }
+  sound_want h q qs (keyword word.False) before b = record {
+    front = before;
+    own = keyword word.False ∷ [];
+    parts = refl;
+    place = b;
+    spelled =
+        rule.falsehood;
+  }
   sound_want h q qs (keyword word.Not) before b =
       sound_gate (has_room limits q.depth) _ (m.want_claim h (m.denied q) qs) (before ++ keyword word.Not ∷ []) (λ room. record {
         outside = b.outside;

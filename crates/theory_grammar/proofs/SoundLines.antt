@@ -32,9 +32,13 @@ module _ (limits : Limits) where
 
   more_arguments : (f x : Name) (xs : List Name) (before : List Token) → Reached limits (m.arguments f xs) before
       → Reached limits (m.arguments f (xs ++ x ∷ [])) (before ++ name x ∷ [])
-  more_arguments f x xs before b =
-      (b.0, b.1 ++ x ∷ [], ap (λ (ys : List Name). ys ++ x ∷ []) b.2, ap (λ (ts : List Token). ts ++ name x ∷ []) b.3
-          ∙ ap (λ (ts : List Token). keyword word.Fun ∷ name f ∷ keyword word.Of ∷ name b.0 ∷ ts) (sym (map-append b.1 x)))
+  more_arguments f x xs before b = (
+    b.0,
+    b.1 ++ x ∷ [],
+    ap (λ (ys : List Name). ys ++ x ∷ []) b.2,
+    ap (λ (ts : List Token). ts ++ name x ∷ []) b.3
+        ∙ ap (λ (ts : List Token). keyword word.Fun ∷ name f ∷ keyword word.Of ∷ name b.0 ∷ ts) (sym (map-append b.1 x)),
+  )
 
   sound_of : (f : Name) (t : Token) (before : List Token) → Reached limits (m.word_of f) before → Goes (Reached limits) (before ++ t ∷ []) (m.at_of f t)
   sound_of f (keyword word.Of) before b = then before _ (keyword word.Of) b
@@ -129,12 +133,12 @@ module _ (limits : Limits) where
   well : (st : State) (before : List Token) → Reached limits st before → EndsWell before (ended st)
   well (m.arguments f xs) before b =
       as_line before _ _ b.3 (subst (λ (ys : List Name). IsLine limits (keyword word.Fun ∷ name f ∷ keyword word.Of ∷ name b.0 ∷ map name b.1)
-          (plain.function f ys)) (sym b.2) rule.function_line)
+      (plain.function f ys)) (sym b.2) rule.function_line)
   well (m.finished line) before b = b
   well (m.have_claim c h q qs) before b = claim_ends c h q qs before b
   well (m.integer n p o ctx) before b =
       term_ends (m.settled p (plain.number (whole (pos n)))) (m.reset p) o ctx before (ends.factored limits p o ctx _ before
-          (sound.one_power limits p o ctx _ before (sound.integer_closed limits n p o ctx before b)))
+      (sound.one_power limits p o ctx _ before (sound.integer_closed limits n p o ctx before b)))
   well (m.closed x p o ctx) before b =
       term_ends (m.settled p x) (m.reset p) o ctx before (ends.factored limits p o ctx x before (sound.one_power limits p o ctx x before b))
   well (m.term x p o ctx) before b = term_ends x p o ctx before b

@@ -56,8 +56,16 @@ EndsClaim rule.claim ts = EndsSum ts × NotAnd ts × NotOr ts × NotImplies ts �
 
 -- a place behind these parts
 abbrev pub place : Option Claim → List Claim → List Claim → List Claim → ℕ → ClaimPlace
-place other premises disjuncts conjuncts d = record { other = other; premises = premises; disjuncts = disjuncts; conjuncts = conjuncts; nots = 0; base =
-    d; depth = d }
+place other premises disjuncts conjuncts d = record {
+  other = other;
+  premises = premises;
+  disjuncts = disjuncts;
+  conjuncts = conjuncts;
+  nots = 0;
+  base =
+      d;
+  depth = d;
+}
 
 -- the first token of an expression
 abbrev Opens : Token → Type 0
@@ -137,14 +145,14 @@ module _ (limits : Limits) where
     -- the last conjunct stands for the chain, the last disjunct for its chain, and so on
     as_conjunction : (other : Option Claim) (ps ds bs : List Claim) (rest : List Token) → NotAnd rest
         → run limits (m.have_claim c h (place other ps ds bs d) qs) rest ≡ run limits (m.have_claim (conjunction_of (bs ++ c ∷ [])) h
-            (place other ps ds [] d) qs) rest
+        (place other ps ds [] d) qs) rest
     as_conjunction other ps ds bs [] e = refl
     as_conjunction other ps ds bs (keyword word.And ∷ ts) e = elim e [ ]
     as_conjunction other ps ds bs (t ∷ ts) e = refl
 
     as_disjunction : (other : Option Claim) (ps bs : List Claim) (rest : List Token) → NotAnd rest → NotOr rest
         → run limits (m.have_claim c h (place other ps bs [] d) qs) rest ≡ run limits (m.have_claim (disjunction_of (bs ++ c ∷ [])) h
-            (place other ps [] [] d) qs) rest
+        (place other ps [] [] d) qs) rest
     as_disjunction other ps bs [] e e' = refl
     as_disjunction other ps bs (keyword word.And ∷ ts) e e' = elim e [ ]
     as_disjunction other ps bs (keyword word.Or ∷ ts) e e' = elim e' [ ]
@@ -152,7 +160,7 @@ module _ (limits : Limits) where
 
     as_implication : (other : Option Claim) (b : Claim) (ps : List Claim) (rest : List Token) → EndsClaim rule.side rest
         → run limits (m.have_claim c h (place other (b ∷ ps) [] [] d) qs) rest ≡ run limits (m.have_claim (plain.implication b c) h
-            (place other ps [] [] d) qs) rest
+        (place other ps [] [] d) qs) rest
     as_implication other b ps [] e = refl
     as_implication other b ps (keyword word.And ∷ ts) e = elim e.1 [ ]
     as_implication other b ps (keyword word.Or ∷ ts) e = elim e.2 [ ]
@@ -223,18 +231,18 @@ module _ (limits : Limits) where
         ∙ as_negation c h q qs rest
     taken_claim (rule.bracketed {d = d} {ts = ts} {c = c} room u) = λ h q qs rest e f.
         opened limits (has_room limits q.depth) Deep (m.want_claim h (m.fresh_claim (suc q.depth)) (q ∷ qs)) ((ts ++ mark sign.CloseSquare ∷ []) ++ rest)
-            (room_at q.depth d e room)
+        (room_at q.depth d e room)
         ∙ regroup (m.want_claim h (m.fresh_claim (suc q.depth)) (q ∷ qs)) ts [] rest (mark sign.CloseSquare)
         ∙ ap (λ (k : ℕ). run limits (m.want_claim h (m.fresh_claim (suc k)) (q ∷ qs)) (ts ++ mark sign.CloseSquare ∷ rest)) e
         ∙ taken_claim u h (q ∷ qs) (mark sign.CloseSquare ∷ rest) (tt, tt, tt, tt, tt)
     taken_claim (rule.conjunction {d = d} {ts = ts} {cs = cs} u) = λ h other ps ds qs rest f.
         let w = taken_conjuncts u in
         w.3 h other ps ds qs rest f.0 ∙ as_conjunction h d qs w.1 other ps ds w.0 rest f.1
-            ∙ ap (λ (bs : List Claim). run limits (m.have_claim (conjunction_of bs) h (place other ps ds [] d) qs) rest) (sym w.2)
+        ∙ ap (λ (bs : List Claim). run limits (m.have_claim (conjunction_of bs) h (place other ps ds [] d) qs) rest) (sym w.2)
     taken_claim (rule.disjunction {d = d} {ts = ts} {cs = cs} u) = λ h other ps qs rest f.
         let w = taken_disjuncts u in
         w.3 h other ps qs rest (f.0, f.1) ∙ as_disjunction h d qs w.1 other ps w.0 rest f.1 f.2
-            ∙ ap (λ (bs : List Claim). run limits (m.have_claim (disjunction_of bs) h (place other ps [] [] d) qs) rest) (sym w.2)
+        ∙ ap (λ (bs : List Claim). run limits (m.have_claim (disjunction_of bs) h (place other ps [] [] d) qs) rest) (sym w.2)
     taken_claim (rule.one_premise u) = λ h other ps qs rest f. taken_claim u h other ps qs rest (f.0, f.1, f.2)
     taken_claim (rule.implies {d = d} {ts = ts} {us = us} {b = b} {c = c} u v) = λ h other ps qs rest f.
         regroup (m.want_claim h (place other ps [] [] d) qs) ts us rest (keyword word.Implies)

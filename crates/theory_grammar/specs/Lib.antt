@@ -7,3 +7,4 @@ pub mod Printed
 pub mod TextFault
 pub mod OneLine
 pub mod RoundTrip
+pub mod Texts

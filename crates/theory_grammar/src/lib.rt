@@ -7,6 +7,7 @@
 mod laws;
 mod laws_printed;
 mod laws_scan;
+mod laws_text;
 mod text_kind;
 mod unreadable;
 mod words;
@@ -17,6 +18,10 @@ pub use laws::{
 };
 pub use laws_printed::printed_forms_spell_the_same;
 pub use laws_scan::each_line_is_read_in_one_way;
+pub use laws_text::{
+    a_line_is_spelled_once_or_fails_once, a_text_is_spelled_once_or_fails_once,
+    an_edit_text_is_spelled_once_or_fails_once,
+};
 pub use text_kind::TextKind;
 pub use unreadable::Unreadable;
 pub use words::{Keyword, LineFaultKind, Mark};

@@ -1,4 +1,4 @@
-ghost use Rattle.std.specs.Prelude.{IfOk};
+ghost use Rattle.std.specs.Prelude.{◌≤◌, length, IfOk};
 ghost use Rattle.theory_grammar.specs.Runs.{IsRun, first_passes};
 ghost use Rattle.theory_grammar.specs.Scan.{is_blank};
 ghost use Rattle.theory_tokens.specs.Scanned.{IsScan, IsBehindBlanks};
@@ -14,9 +14,9 @@ use theory_points::NoMemory;
 #[derive(Clone, Copy, Debug, PartialEq, Eq)]
 pub enum End {
     /// At a comment sign, or one past the last byte.
-    Complete(usize),
+    Complete(u32),
     /// At bytes that can't be read.
-    Broken(Unreadable, usize),
+    Broken(Unreadable, u32),
 }
 
 /// The tokens of a line and how it ends.
@@ -24,19 +24,20 @@ pub enum End {
 pub struct Scanned<'a> {
     pub tokens: Vec<Token<'a>>,
     /// The column of the first byte of each token, from 1.
-    pub columns: Vec<usize>,
+    pub columns: Vec<u32>,
     pub end: End,
 }
 
-/// Reads the bytes of a line as tokens, up to the end or to bytes that can't be read.
+/// Reads the bytes of a line, no more than a text has, as tokens up to its end or to a fault.
 pub fn scan_line<'a>(alloc: Global, line: &'a [u8]) -> Result<Scanned<'a>, NoMemory>
+    requires { length line.now ≤ 65536 }
     ensures { IfOk result (IsScan line.now) }
 {
     let mut tokens = Vec::new(alloc);
     let mut columns = Vec::new(alloc);
     let mut rest = behind_blanks(line);
     loop {
-        let column = line.len() - rest.len() + 1;
+        let column = (line.len() - rest.len() + 1) as u32;
         match next_token(rest) {
             Next::Found(token, behind) => {
                 tokens.push(token)?;

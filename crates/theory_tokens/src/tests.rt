@@ -20,7 +20,7 @@ fn is_same(found: Token<'_>, wanted: Token<'_>) -> bool {
 }
 
 /// Whether these tokens stand at these columns, in this order.
-fn has_tokens(scanned: &Scanned<'_>, wanted: &[(usize, Token<'_>)]) -> bool {
+fn has_tokens(scanned: &Scanned<'_>, wanted: &[(u32, Token<'_>)]) -> bool {
     if scanned.tokens.len() != wanted.len() || scanned.columns.len() != wanted.len() {
         return false;
     }
@@ -32,8 +32,11 @@ fn has_tokens(scanned: &Scanned<'_>, wanted: &[(usize, Token<'_>)]) -> bool {
     true
 }
 
-/// Whether the line is read as these tokens and ends so; not where memory runs out.
-fn is_read(alloc: Global, line: &[u8], wanted: &[(usize, Token<'_>)], end: End) -> bool {
+/// Whether the line is read as these tokens and ends so; not where it is long or memory runs out.
+fn is_read(alloc: Global, line: &[u8], wanted: &[(u32, Token<'_>)], end: End) -> bool {
+    if line.len() > 65_536 {
+        return false;
+    }
     match scan_line(alloc, line) {
         Ok(scanned) => scanned.end == end && has_tokens(&scanned, wanted),
         Err(_) => false,
@@ -166,7 +169,7 @@ fn keywords(rt: HostRuntime) -> Result<(), Fail> {
 fn ends(rt: HostRuntime) -> Result<(), Fail> {
     let alloc = rt.alloc();
     let name = [(1, Token::Name(b"x"))];
-    let none: [(usize, Token<'_>); 0] = [];
+    let none: [(u32, Token<'_>); 0] = [];
     assert!(rt; is_read(alloc, b"", &none, End::Complete(1)));
     assert!(rt; is_read(alloc, b" \t\r", &none, End::Complete(4)));
     assert!(rt; is_read(alloc, b"x\t\r#\xff\n", &name, End::Complete(4)));
@@ -203,7 +206,7 @@ fn ends(rt: HostRuntime) -> Result<(), Fail> {
 fn numbers(rt: HostRuntime) -> Result<(), Fail> {
     let alloc = rt.alloc();
     let greatest = [(1, Token::Number(288230376151711744))];
-    let none: [(usize, Token<'_>); 0] = [];
+    let none: [(u32, Token<'_>); 0] = [];
     assert!(rt; is_read(alloc, b"288230376151711744", &greatest, End::Complete(19)));
     assert!(rt;
         is_read(
