@@ -1,1 +1,10 @@
 pub mod Token
+pub mod Scan
+pub mod Runs
+pub mod Spelled
+pub mod LineFault
+pub mod Printed
+pub mod TextFault
+pub mod OneLine
+pub mod RoundTrip
+pub mod Texts

@@ -1,5 +1,5 @@
 -- The tokens of a line, as plain data. docs/MODEL_TEXT.md has them in words.
-use Rattle.std.specs.Prelude.{ℕ, List}
+use Rattle.std.specs.Prelude.{ℕ}
 use Rattle.theory_meaning.specs.declared.words.Rel.{Rel}
 use Rattle.theory_meaning.specs.Point.{Name}
 use Rattle.theory_grammar.specs.declared.words.Keyword.{Keyword}

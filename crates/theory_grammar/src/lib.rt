@@ -4,6 +4,24 @@
 //! here; the enums below have no fields, and the product shares them.
 #![tactic(auto)]
 
+mod laws;
+mod laws_printed;
+mod laws_scan;
+mod laws_text;
+mod text_kind;
+mod unreadable;
 mod words;
 
-pub use words::{Keyword, Mark};
+pub use laws::{
+    literals_are_in_lowest_terms, tokens_spell_one_edit_or_fail_once,
+    tokens_spell_one_line_or_fail_once,
+};
+pub use laws_printed::printed_forms_spell_the_same;
+pub use laws_scan::each_line_is_read_in_one_way;
+pub use laws_text::{
+    a_line_is_spelled_once_or_fails_once, a_text_is_spelled_once_or_fails_once,
+    an_edit_text_is_spelled_once_or_fails_once,
+};
+pub use text_kind::TextKind;
+pub use unreadable::Unreadable;
+pub use words::{Keyword, LineFaultKind, Mark};

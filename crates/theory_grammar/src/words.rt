@@ -43,3 +43,16 @@ pub enum Mark {
     /// `:`
     Colon,
 }
+
+/// Why the tokens of a line can't go on.
+#[derive(Clone, Copy, Debug, PartialEq, Eq)]
+pub enum LineFaultKind {
+    /// No line begins with the tokens up to this one.
+    Unexpected,
+    /// The second number of a fraction literal is 0.
+    ZeroBelow,
+    /// An exponent isn't from 1 to 8.
+    Exponent,
+    /// A sign would be the 33rd open one.
+    Deep,
+}

@@ -1,17 +1,17 @@
 -- Roots that are put in their places one after another are those of all comparisons, upwards and each once.
-use Rattle.std.proofs.Common.{◌≡◌, ℕ, suc, ◌≤◌, Bool, true, false, cond, List, [], ◌∷◌, ◌++◌, Option, Some, None, ◌⊎◌, inl, inr, ⊎_elim, refl, sym, ap, ◌∙◌, subst, arith, ◌+◌, ◌<◌, length, get_or, drop, append_assoc, add-one, drop-cons}
+use Rattle.std.proofs.Common.{◌≡◌, ℕ, suc, ◌≤◌, Bool, true, false, cond, List, [], ◌∷◌, ◌++◌, Some, None, ◌⊎◌, inl, inr, ⊎_elim, refl, sym, ap, ◌∙◌, subst, arith, ◌+◌, ◌<◌, length, get_or, drop, append_assoc, add-one, drop-cons}
 use Rattle.std.specs.Prelude.{Contains}
 use Rattle.std.proofs.lemmas.List.{append-nil, drop_all}
 use Rattle.std.proofs.lemmas.List.Elements.{Contains-append_left, Contains-append_cases, Contains-push, Contains-push_cases}
 use Rattle.theory_meaning.specs.Fraction.{Fraction, IsSame, IsBelow, below, same}
-use Rattle.theory_meaning.proofs.OrderLaws.{below_or_same, fact_from_below, fact_from_same, same_itself, same_turned, below_from_fact, same_from_fact, same_trans}
+use Rattle.theory_meaning.proofs.OrderLaws.{below_or_same, fact_from_below, fact_from_same, same_itself, same_turned, same_from_fact, same_trans}
 use Rattle.theory_method.specs.Candidates.{IsAscending}
 use Rattle.theory_method.proofs.CandidateLaws.{Contains-first, Contains-rest}
 use Rattle.theory_one_variable.specs.declared.text.Atom.{Atom}
 use Rattle.theory_one_variable.specs.declared.text.Role.{Role}
 use Rattle.theory_one_variable.specs.declared.text.Role.TheVariants.{Assumption, Claim as Asked}
 use Rattle.theory_one_variable.specs.declared.text.Row.{Row}
-use Rattle.theory_one_variable.specs.Roots.{IsRootOf, HasRoot, inserted, with_root, AddsRoot, AreRootsOf, atoms_by_role, assumption_atoms}
+use Rattle.theory_one_variable.specs.Roots.{IsRootOf, HasRoot, inserted, AddsRoot, AreRootsOf, atoms_by_role, assumption_atoms}
 
 -- what inserted gives at a first entry: in front of it, the same, or behind it
 record InsertedAt (r b : Fraction) (bs result : List Fraction) : Type 0 where

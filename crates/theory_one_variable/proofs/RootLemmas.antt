@@ -1,17 +1,16 @@
 -- The root of a comparison of two sides, by the kinds of its terms and its signs.
-use Rattle.std.proofs.Common.{◌≡◌, ℕ, zero, suc, ◌+◌, ◌*◌, ℤ, pos, negsuc, ◌+ℤ◌, ◌*ℤ◌, neg_ℤ, Bool, true, false, not, cond, Some, None, refl, sym, ap, ◌∙◌, subst, arith}
+use Rattle.std.proofs.Common.{◌≡◌, ℕ, zero, suc, ◌+◌, ◌*◌, ℤ, pos, negsuc, ◌*ℤ◌, neg_ℤ, Bool, true, false, not, refl, sym, ap, ◌∙◌, subst, arith}
 use Rattle.std.proofs.Math.IntN.{neg_ℤ-neg_ℤ, pos-*ℤ-pos, negsuc-*ℤ-pos}
 use Rattle.theory_meaning.proofs.WholeLaws.{neg-times}
 use Rattle.theory_meaning.proofs.ValueLaws.{opposite_respects}
 use Rattle.std.specs.Bool.{beq}
 use Rattle.std.proofs.lemmas.Int.{ints}
 use Rattle.theory_meaning.specs.declared.words.Rel.{Rel}
-use Rattle.theory_meaning.specs.Fraction.{Fraction, den, cross, whole, IsSame, opposite_of}
+use Rattle.theory_meaning.specs.Fraction.{Fraction, den, whole, IsSame, opposite_of}
 use Rattle.theory_one_variable.specs.declared.text.Atom.{Atom}
 use Rattle.theory_one_variable.specs.declared.text.Term.{Term}
 use Rattle.theory_one_variable.specs.declared.text.Term.TheVariants.{Variable, Number}
-use Rattle.theory_one_variable.specs.Trial.{side_value}
-use Rattle.theory_one_variable.specs.Roots.{AreEqualWhere, IsRootOf, HasRoot, root_of}
+use Rattle.theory_one_variable.specs.Roots.{HasRoot, root_of}
 
 -- the opposite of the opposite
 opposite_twice : (q : Fraction) → opposite_of (opposite_of q) ≡ q

@@ -1,11 +1,9 @@
 -- The claims of a one-variable text at one value of the variable, and their roots.
-use Rattle.std.proofs.Common.{◌≡◌, ℕ, pos, zero, suc, ◌+◌, ◌<◌, arith, length, Bool, true, false, not, ◌&&◌, cond, List, [], ◌∷◌, ◌++◌, map, Option, Some, None, ⊎_elim, inl, inr, ◌⊎◌, refl, sym, ap, ◌∙◌, subst}
+use Rattle.std.proofs.Common.{◌≡◌, pos, arith, Bool, true, false, not, ◌&&◌, cond, List, [], ◌∷◌, ◌++◌, map, Option, Some, None, ⊎_elim, refl, sym, ap, ◌∙◌, subst}
 use Rattle.std.specs.Prelude.{Contains, find}
 use Rattle.std.specs.Bool.{beq}
-use Rattle.std.specs.Str.{bytes_eq}
-use Rattle.std.proofs.lemmas.List.Elements.{Contains-append_left, Contains-append_right, Contains-append_cases, Contains-push, Contains-push_cases, Contains-get_or}
+use Rattle.std.proofs.lemmas.List.Elements.{Contains-append_left, Contains-append_right, Contains-append_cases, Contains-push, Contains-push_cases}
 use Rattle.std.proofs.lemmas.Slice.Eq.{bytes_eq-Decides}
-use Rattle.theory_meaning.specs.declared.words.Rel.{Rel}
 use Rattle.theory_meaning.specs.Fraction.{Fraction, IsSame, opposite_of, whole}
 use Rattle.theory_meaning.specs.Point.{Name, Point, value_at, only_at}
 use Rattle.theory_meaning.specs.Tree as plain
@@ -29,7 +27,7 @@ use Rattle.theory_one_variable.specs.declared.text.Role.{Role}
 use Rattle.theory_one_variable.specs.declared.text.Role.TheVariants as role
 use Rattle.theory_one_variable.specs.declared.text.Row.{Row}
 use Rattle.theory_one_variable.specs.OneVariable.{assumptions_of}
-use Rattle.theory_one_variable.specs.Rows.{term_expr, side_expr, atom_claim, line_as, row_line, row_lines, sentence}
+use Rattle.theory_one_variable.specs.Rows.{term_expr, side_expr, atom_claim, line_as, row_lines, sentence}
 use Rattle.theory_one_variable.specs.Trial.{term_value, side_value, atom_test, assumption_test, assumptions_test}
 use Rattle.theory_one_variable.specs.Roots.{AreEqualWhere, IsRootOf, atoms_by_role, assumption_atoms, AreRootsOf}
 

@@ -3,7 +3,7 @@ use Rattle.std.proofs.Common.{◌≡◌, ℕ, suc, ◌+◌, ◌-◌, ◌<◌, �
 use Rattle.std.proofs.lemmas.List.{append-nil}
 use Rattle.theory_meaning.specs.Fraction.{Fraction, IsBelow, whole}
 use Rattle.theory_method.specs.Between.{IsSimplestBetween, IsWholeBelow, IsWholeAbove}
-use Rattle.theory_method.specs.Candidates.{IsAscending, AreMiddles, AreEnds, last_of}
+use Rattle.theory_method.specs.Candidates.{IsAscending, AreMiddles, last_of}
 use Rattle.theory_one_variable.specs.Tried.{AddsMiddles, AddsEnds}
 
 -- the middles of the first neighbours are added, and those of the rest are still to come

@@ -5,3 +5,5 @@ pub mod Rows
 pub mod Trial
 pub mod Roots
 pub mod Tried
+pub mod ReadLines
+pub mod RowRules

@@ -1,8 +1,8 @@
 -- One-variable texts: a model, one variable, and assumptions and claims that compare two sides.
-use Rattle.std.specs.Prelude.{◌≡◌, ◌≢◌, ℕ, ◌≤◌, List, [], ◌∷◌, ◌++◌, length, map, Option, Some, None, Contains}
+use Rattle.std.specs.Prelude.{◌≡◌, ◌≤◌, List, [], ◌∷◌, length, None, Contains}
 use Rattle.theory_meaning.specs.Point.{Name}
 pub use Rattle.theory_meaning.specs.Question.{example_sentence, counter_sentence}
-use Rattle.theory_meaning.specs.Tree.{Expr, number, symbol, opposite, Claim, atom, negation, Line, model, var, assume, claim}
+use Rattle.theory_meaning.specs.Tree.{Expr, number, symbol, opposite, Claim, atom, Line, model, var, assume, claim}
 
 -- the variable or a number
 abbrev pub IsTermOver : Name → Expr → Type 0

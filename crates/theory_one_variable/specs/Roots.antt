@@ -1,5 +1,5 @@
 -- The roots of the comparisons of a one-variable text.
-use Rattle.std.specs.Prelude.{◌≡◌, ℕ, ◌≤◌, pos, Bool, List, [], ◌∷◌, ◌++◌, length, Option, Some, None, Contains, insert, if◌then◌else◌}
+use Rattle.std.specs.Prelude.{◌≡◌, ◌≤◌, pos, Bool, List, [], ◌∷◌, length, Option, Some, None, Contains, insert, if◌then◌else◌}
 use Rattle.theory_meaning.specs.Fraction.{Fraction, whole, IsSame, opposite_of, same, below}
 use Rattle.theory_method.specs.Candidates.{IsAscending}
 use Rattle.theory_one_variable.specs.declared.text.Atom.{Atom}

@@ -1,5 +1,5 @@
 -- The plain lines that a one-variable text of the program stands for.
-use Rattle.std.specs.Prelude.{ℕ, Bool, true, false, List, ◌∷◌, None, map, if◌then◌else◌}
+use Rattle.std.specs.Prelude.{Bool, true, false, List, None, map, if◌then◌else◌}
 use Rattle.theory_meaning.specs.Point.{Name}
 use Rattle.theory_meaning.specs.Tree as plain
 use Rattle.theory_one_variable.specs.declared.text.Term.{Term}

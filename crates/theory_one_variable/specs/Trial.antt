@@ -1,5 +1,5 @@
 -- The comparisons of a one-variable text at one value of the variable.
-use Rattle.std.specs.Prelude.{Bool, not, true, ◌&&◌, List, [], ◌∷◌, if◌then◌else◌}
+use Rattle.std.specs.Prelude.{Bool, true, ◌&&◌, List, [], ◌∷◌, if◌then◌else◌}
 use Rattle.theory_meaning.specs.Fraction.{Fraction, opposite_of}
 use Rattle.theory_meaning.specs.Truth.{holds}
 use Rattle.theory_one_variable.specs.declared.text.Term.{Term}

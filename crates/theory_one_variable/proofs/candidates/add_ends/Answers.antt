@@ -1,7 +1,7 @@
-use Rattle.std.proofs.Common.{◌≡◌, ◌<◌, length, ℤ, List, [], ◌∷◌, ◌++◌, ap, ◌∙◌, arith, rules}
+use Rattle.std.proofs.Common.{◌<◌, length, ℤ, [], ◌∷◌, ◌++◌, ap, ◌∙◌, arith, rules}
 use Rattle.std.proofs.lemmas.Int.{to_z-of_z}
 use mir.Syntax.{w64}
-use mir.Val.{to_z, of_z, SFits}
+use mir.Val.{SFits}
 use Rattle.theory_meaning.specs.Fraction.{Fraction, whole}
 use Rattle.theory_one_variable.proofs.TriedLemmas.{ends_added}
 use Rattle.theory_one_variable.proofs.candidates.add_ends.Goals as goal

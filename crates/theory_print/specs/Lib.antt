@@ -1,0 +1,2 @@
+pub use Rattle.theory_grammar.specs.Printed
+pub use Rattle.theory_syntax.specs.Plain

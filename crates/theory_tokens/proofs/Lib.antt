@@ -1,0 +1,3 @@
+pub mod NextLemmas
+pub mod NumberLemmas
+pub mod LineLemmas
