@@ -25,3 +25,4 @@ pub mod OpMachine
 pub mod OpLaws
 pub mod LowestLaws
 pub mod Outcomes
+pub mod FitLaws

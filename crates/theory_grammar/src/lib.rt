@@ -15,7 +15,7 @@ pub use laws::{
     literals_are_in_lowest_terms, tokens_spell_one_edit_or_fail_once,
     tokens_spell_one_line_or_fail_once,
 };
-pub use laws_scan::each_line_is_read_in_one_way;
+pub use laws_scan::{each_line_is_read_in_one_way, tokens_are_fit};
 pub use laws_text::{
     a_line_is_spelled_once_or_fails_once, a_text_is_spelled_once_or_fails_once,
     an_edit_text_is_spelled_once_or_fails_once,
