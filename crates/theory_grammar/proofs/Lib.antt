@@ -32,3 +32,4 @@ pub mod ClaimLevels
 pub mod PrintedClaims
 pub mod PrintedLines
 pub mod Outcomes
+pub mod FitLaws

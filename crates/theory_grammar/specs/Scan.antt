@@ -1,10 +1,10 @@
 -- How the bytes of a line are read as tokens, by the longest match. docs/MODEL_TEXT.md has it in words.
-use Rattle.std.specs.Prelude.{◌≡◌, ◌≢◌, ◌⊎◌, ℕ, ◌+◌, ◌-◌, ◌*◌, ◌≤◌, Bool, false, not, ◌&&◌, ◌||◌, ◌==◌, nat_lt, if◌then◌else◌, List, [], ◌∷◌, ◌++◌, length, fold, Option, None, Some, codes, IsTrue}
+use Rattle.std.specs.Prelude.{◌≡◌, ◌≢◌, ◌⊎◌, ℕ, ◌+◌, ◌-◌, ◌*◌, ◌≤◌, Bool, false, not, ◌&&◌, ◌||◌, ◌==◌, nat_lt, if◌then◌else◌, List, [], ◌∷◌, ◌++◌, length, fold, Option, None, Some, codes, IsTrue, All}
 use Rattle.std.specs.List.{list_all}
 use Rattle.std.specs.Str.{bytes_eq}
 use Rattle.theory_meaning.specs.declared.words.Rel.{Rel}
 use Rattle.theory_meaning.specs.declared.words.Rel.TheVariants.{Eq, Ne, Lt, Le, Gt, Ge}
-use Rattle.theory_meaning.specs.Identifier.{is_digit, is_word, is_reserved}
+use Rattle.theory_meaning.specs.Identifier.{is_digit, is_word, is_reserved, IsIdentifier}
 use Rattle.theory_meaning.specs.Limits.{bound}
 use Rattle.theory_grammar.specs.declared.words.Keyword.{Keyword}
 use Rattle.theory_grammar.specs.declared.words.Keyword.TheVariants as reserved
@@ -165,6 +165,16 @@ pub data Reads : ℕ → List ℕ → List Placed → End → Type 0 where
 -- the bytes of a line are read as these tokens, and end so
 abbrev pub ReadsLine : List ℕ → List Placed → End → Type 0
 ReadsLine line = Reads 1 line
+
+-- a name is an identifier, and a number is within the bound of literals
+abbrev pub IsFit : Token → Type 0
+IsFit (name x) = IsIdentifier x
+IsFit (number n) = n ≤ bound
+IsFit _ = Unit {0}
+
+-- each token that is read is fit
+abbrev pub TokensAreFit : Type 0
+TokensAreFit = (line : List ℕ) (ts : List Placed) (e : End) → ReadsLine line ts e → All (λ p. IsFit p.token) ts
 
 -- each line of bytes is read in some way
 abbrev pub EachLineIsRead : Type 0
