@@ -17,3 +17,5 @@ pub mod TurnedLaws
 pub mod FormulaLaws
 pub mod ConditionLaws
 pub mod WrittenLaws
+pub mod QuotientValues
+pub mod LoweredLaws

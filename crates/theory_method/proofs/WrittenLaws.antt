@@ -11,13 +11,13 @@ use Rattle.theory_meaning.specs.Truth.{value_of, holds, truth_of, all_of, some_o
 use Rattle.theory_meaning.proofs.ValueLaws.{product-swap, product_assoc, difference-is, sum-zero_right}
 use Rattle.theory_method.specs.declared.signs.Signs.{Signs}
 use Rattle.theory_method.specs.declared.signs.Signs.TheVariants as set
-use Rattle.theory_method.specs.Polynomial.{Monomial, exponent_of, degree_in}
-use Rattle.theory_method.specs.PolynomialValue.{Values, power_product, term_at, polynomial_at}
+use Rattle.theory_method.specs.Polynomial.{Monomial, degree_in}
+use Rattle.theory_method.specs.PolynomialValue.{power_product, term_at, polynomial_at}
 use Rattle.theory_method.specs.Signs.{has, signs_of, sign_of}
 use Rattle.theory_method.specs.Formula.{Formula, Formulas, always, never, atom, conjunction, disjunction, none, more, truth_by, all_by, some_by, reading_at, sign_at, EachAtom, EachAtomOfAll}
 use Rattle.theory_method.specs.Lowered.{values_of}
 use Rattle.theory_method.specs.WrittenClaim.{rel_of, small_power, power_factors, factors_of, product_from, multiple_of, term_of, sum_from, polynomial_of, both_of, either_of, written_claim, written_claims, IsNamed}
-use Rattle.theory_method.proofs.FractionLaws.{Equals, exact, back, along, sums, products, sum_assoc, one_times, power_sum, sign_of_same, turned_times}
+use Rattle.theory_method.proofs.FractionLaws.{Equals, exact, back, along, sums, sum_assoc, one_times, power_sum, sign_of_same, turned_times}
 use Rattle.theory_method.proofs.ConditionLaws.{sign_of_own, sign_of_only}
 use Rattle.theory_method.proofs.FormulaLaws.{sign_of_difference}
 
@@ -218,17 +218,20 @@ either_truth (claim.more c (claim.more d cs)) p = refl
 
 -- the written claim has the truth of the formula
 mutual
-  pub written_truth : (ns : List Name) (F : Formula) (p : Point) → EachAtom (IsNamed ns) F → truth_of (written_claim ns F) p ≡ truth_by (reading_at (values_of ns p)) F
+  pub written_truth : (ns : List Name) (F : Formula) (p : Point) → EachAtom (IsNamed ns) F
+      → truth_of (written_claim ns F) p ≡ truth_by (reading_at (values_of ns p)) F
   written_truth ns always p h = refl
   written_truth ns never p h = refl
   written_truth ns (atom P S) p h = atom_truth ns P S p h
   written_truth ns (conjunction Fs) p h = both_truth (written_claims ns Fs) p ∙ written_all ns Fs p h
   written_truth ns (disjunction Fs) p h = either_truth (written_claims ns Fs) p ∙ written_some ns Fs p h
 
-  written_all : (ns : List Name) (Fs : Formulas) (p : Point) → EachAtomOfAll (IsNamed ns) Fs → all_of (written_claims ns Fs) p ≡ all_by (reading_at (values_of ns p)) Fs
+  written_all : (ns : List Name) (Fs : Formulas) (p : Point) → EachAtomOfAll (IsNamed ns) Fs
+      → all_of (written_claims ns Fs) p ≡ all_by (reading_at (values_of ns p)) Fs
   written_all ns none p h = refl
   written_all ns (more F Fs) p h = ap₂ ◌&&◌ (written_truth ns F p h.0) (written_all ns Fs p h.1)
 
-  written_some : (ns : List Name) (Fs : Formulas) (p : Point) → EachAtomOfAll (IsNamed ns) Fs → some_of (written_claims ns Fs) p ≡ some_by (reading_at (values_of ns p)) Fs
+  written_some : (ns : List Name) (Fs : Formulas) (p : Point) → EachAtomOfAll (IsNamed ns) Fs
+      → some_of (written_claims ns Fs) p ≡ some_by (reading_at (values_of ns p)) Fs
   written_some ns none p h = refl
   written_some ns (more F Fs) p h = ap₂ ◌||◌ (written_truth ns F p h.0) (written_some ns Fs p h.1)

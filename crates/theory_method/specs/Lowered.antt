@@ -1,6 +1,6 @@
 -- The lowered formula of claims: their normal form, with each comparison as a sign condition on a polynomial over symbols.
 -- Source: this project's own; symbol k stands for the k-th of the listed names, counted from 0.
-use Rattle.std.specs.Prelude.{◌≡◌, ℕ, zero, suc, List, [], ◌∷◌, map, if◌then◌else◌, pos, negsuc}
+use Rattle.std.specs.Prelude.{◌≡◌, ℕ, zero, suc, List, [], ◌∷◌, map, if◌then◌else◌, pos}
 use Rattle.std.specs.Str.{bytes_eq}
 use Rattle.theory_meaning.specs.declared.words.Rel.{Rel}
 use Rattle.theory_meaning.specs.Fraction.{den}

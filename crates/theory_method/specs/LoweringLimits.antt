@@ -1,6 +1,6 @@
 -- When the polynomials on the way to a lowered formula pass a limit, and which names must be listed.
 -- Source: this project's own.
-use Rattle.std.specs.Prelude.{ℕ, zero, suc, ◌<◌, ◌⊎◌, List, length, pos}
+use Rattle.std.specs.Prelude.{ℕ, zero, suc, ◌<◌, ◌⊎◌, List, length}
 use Rattle.theory_meaning.specs.Fraction.{den}
 use Rattle.theory_meaning.specs.Point.{Name}
 use Rattle.theory_method.specs.Polynomial.{constant_of, symbol_of}

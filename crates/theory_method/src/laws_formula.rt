@@ -42,18 +42,20 @@ pub fn parts_of_sets_have_their_signs()
 
 /// Two numbers are in a relation exactly where the sign of their difference is in its set.
 pub fn relations_are_signs_of_differences()
-    ensures { (rel : Rel) (q r : Fraction) → has (signs_of rel) (sign_of (difference_of q r)) ≡ holds rel q r }
+    ensures { (rel : Rel) (q r : Fraction) →
+        has (signs_of rel) (sign_of (difference_of q r)) ≡ holds rel q r }
 {}
 
 /// The condition on a polynomial is true exactly where the set has the sign of the polynomial.
 pub fn conditions_have_the_truth_of_the_sign()
-    ensures { (P : List Monomial) (S : Signs) (F : Formula) (p : Values) → IsPolynomial P → IsAtomOf P S F →
-        truth_at F p ≡ has S (sign_at P p) }
+    ensures { (P : List Monomial) (S : Signs) (F : Formula) (p : Values) →
+        IsPolynomial P → IsAtomOf P S F → truth_at F p ≡ has S (sign_at P p) }
 {}
 
 /// A formula whose true atoms stay true stays true.
 pub fn true_atoms_keep_a_formula_true()
-    ensures { (F : Formula) (r s : Reading) → EachAtom (StaysTrue r s) F → IsTrue (truth_by r F) → IsTrue (truth_by s F) }
+    ensures { (F : Formula) (r s : Reading) → EachAtom (StaysTrue r s) F →
+        IsTrue (truth_by r F) → IsTrue (truth_by s F) }
 {}
 
 /// Negation turns the truth at every point.

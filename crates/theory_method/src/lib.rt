@@ -23,7 +23,7 @@ pub use laws_formula::{
     mirror_and_complement_have_their_signs, negation_turns_truth, parts_of_sets_have_their_signs,
     relations_are_signs_of_differences, true_atoms_keep_a_formula_true,
 };
-pub use laws_lowering::written_claims_keep_truth;
+pub use laws_lowering::{lowered_formulas_keep_truth, written_claims_keep_truth};
 pub use laws_polynomial::{
     canonical_keeps_or_turns_signs, coefficients_of_operations, cross_has_the_sign,
     polynomial_is_unique, primitive_keeps_signs, restriction_keeps_signs, split_has_the_value,

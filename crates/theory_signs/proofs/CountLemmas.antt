@@ -23,7 +23,8 @@ pub implication_count : (a b : Claim) (m n k : ℕ) → m ≡ min 513 (atom_coun
     → k ≡ min 513 (atom_count (normal_form (implication a b)))
 implication_count a b m n k first second h = let turned = negated_count a in omega (arith, first, second, h, turned)
 
-pub equivalence_count : (a b : Claim) (m n once k : ℕ) → m ≡ min 513 (atom_count (normal_form a)) → n ≡ min 513 (atom_count (normal_form b)) → once ≡ min 513 (m + n)
+pub equivalence_count : (a b : Claim) (m n once k : ℕ) → m ≡ min 513 (atom_count (normal_form a)) → n ≡ min 513 (atom_count (normal_form b))
+    → once ≡ min 513 (m + n)
     → k ≡ min 513 (once + once) → k ≡ min 513 (atom_count (normal_form (equivalence a b)))
 equivalence_count a b m n once k first second h i =
     let turned = negated_count a in

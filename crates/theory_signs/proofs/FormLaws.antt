@@ -121,18 +121,25 @@ combined_wide op U V P Q (Err e) second result fu fv u v p q h =
     subst (WideWhere (P ⊎ (Q ⊎ IsBeyondBy op U V))) (sym h) (passed_on P (P ⊎ (Q ⊎ IsBeyondBy op U V)) e (λ x. inl x) p)
 
 -- the same of an opposite and of a power
-pub opposed_wide : (U : Quotient → Type 0) (P : Type 0) (first result : Result Quotient Limit) → Form U → IfOk first U → WideWhere P first → Opposes first result
+pub opposed_wide : (U : Quotient → Type 0) (P : Type 0) (first result : Result Quotient Limit) → Form U → IfOk first U → WideWhere P first
+    → Opposes first result
     → WideWhere (P ⊎ ((a : Quotient) × U a × IsQuotientBeyond (opposite_of_quotient a))) result
 opposed_wide U P (Ok a) (Ok r) f u p h =
     λ w. ⊎_elim (λ (x : P). p x)
-    (λ (z : (b : Quotient) × U b × IsQuotientBeyond (opposite_of_quotient b)). h.1 (subst (λ m. IsQuotientBeyond (opposite_of_quotient m)) (f.unique z.0 a z.1 u) z.2)) w
+    (λ (z : (b : Quotient) × U b × IsQuotientBeyond (opposite_of_quotient b)). h.1 (subst (λ m. IsQuotientBeyond (opposite_of_quotient m)) (f.unique z.0 a
+    z.1 u) z.2)) w
 opposed_wide U P (Ok a) (Err e) f u p h =
-    passed_on (IsQuotientBeyond (opposite_of_quotient a)) (P ⊎ ((b : Quotient) × U b × IsQuotientBeyond (opposite_of_quotient b))) e (λ beyond. inr (a, u, beyond)) h.1
+    passed_on (IsQuotientBeyond (opposite_of_quotient a)) (P ⊎ ((b : Quotient) × U b × IsQuotientBeyond (opposite_of_quotient b))) e (λ beyond. inr (
+      a,
+      u,
+      beyond,
+    )) h.1
 opposed_wide U P (Err e) result f u p h =
     let Q : Type 0 = P ⊎ ((b : Quotient) × U b × IsQuotientBeyond (opposite_of_quotient b)) in
     subst (WideWhere Q) (sym h) (passed_on P Q e (λ x. inl x) p)
 
-pub raised_wide : (U : Quotient → Type 0) (P : Type 0) (k : ℕ) (first result : Result Quotient Limit) → Form U → IfOk first U → WideWhere P first → Raises first k result
+pub raised_wide : (U : Quotient → Type 0) (P : Type 0) (k : ℕ) (first result : Result Quotient Limit) → Form U → IfOk first U → WideWhere P first
+    → Raises first k result
     → WideWhere (P ⊎ ((a : Quotient) × U a × IsWidePower a k)) result
 raised_wide U P k (Ok a) (Ok r) f u p h =
     λ w. ⊎_elim (λ (x : P). p x) (λ (z : (b : Quotient) × U b × IsWidePower b k). h.1 (subst (λ m. IsWidePower m k) (f.unique z.0 a z.1 u) z.2)) w
@@ -182,7 +189,8 @@ pub opposes : (of : Result Quotient Limit) (a z : Quotient) (result : Result Quo
     → IfOk result (IsLowestOf (difference_of_quotients z a)) → WideWhere (IsQuotientBeyond (difference_of_quotients z a)) result → Opposes of result
 opposes of a z result is h value wide =
     subst (λ f. Opposes f result) (sym is)
-    (subst (λ y. IfOk result (IsLowestOf (difference_of_quotients y a)) × WideWhere (IsQuotientBeyond (difference_of_quotients y a)) result) (zero_is z h) (value, wide))
+    (subst (λ y. IfOk result (IsLowestOf (difference_of_quotients y a)) × WideWhere (IsQuotientBeyond (difference_of_quotients y a)) result) (zero_is z h)
+    (value, wide))
 
 -- where the difference of two sides was made, no node is wide
 pub difference_is_wide : (ns : List Name) (u v : Expr) (first second result : Result Quotient Limit) (r : Quotient) → result ≡ Ok r

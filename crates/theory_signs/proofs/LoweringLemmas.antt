@@ -1,15 +1,18 @@
 -- The formula of an atom, of both or either of two claims, of an equivalence, and of a list, claim by claim.
-use Rattle.std.proofs.Common.{◌≡◌, ℕ, ◌+◌, ◌<◌, ◌⊎◌, Bool, true, false, not, List, [], ◌∷◌, ◌++◌, length, map, drop, get_or, refl, sym, ap, ◌∙◌, subst, arith, inr, ⊎_elim, Result, Ok, Err, IfOk}
+use Rattle.std.proofs.Common.{◌≡◌, ℕ, ◌+◌, ◌<◌, ◌≤◌, ◌⊎◌, Bool, true, false, not, List, [], ◌∷◌, ◌++◌, length, map, drop, get_or, refl, sym, ap, ◌∙◌, subst, arith, inr, ⊎_elim, Result, Ok, Err, IfOk}
 use Rattle.std.specs.Prelude.{if◌then◌else◌}
 use Rattle.std.proofs.lemmas.List.{at_drop_more, append-nil, append_assoc, map-append}
 use Rattle.theory_meaning.specs.declared.words.Rel.{Rel}
-use Rattle.theory_meaning.specs.Point.{Name}
+use Rattle.theory_meaning.specs.Point.{Name, Point}
+use Rattle.theory_meaning.specs.Truth.{meets}
+use Rattle.theory_method.proofs.LoweredLaws.{lowered_truth}
+use Rattle.theory_signs.specs.declared.fault.LowerFault.{LowerFault}
 use Rattle.theory_meaning.specs.Tree as claim
 use Rattle.theory_points.specs.declared.limit.Limit.{Limit}
 use Rattle.theory_method.specs.NormalForm.{opposite_rel, both, either}
 use Rattle.theory_method.specs.Formula as plain
-use Rattle.theory_method.specs.Lowered.{IsComparison, IsFormulaOf, AreFormulasOf}
-use Rattle.theory_method.specs.LoweringLimits.{IsWideClaim, IsWideAmong, AreListedClaims}
+use Rattle.theory_method.specs.Lowered.{values_of, IsComparison, IsFormulaOf, AreFormulasOf, IsLowered}
+use Rattle.theory_method.specs.LoweringLimits.{IsWideClaim, IsWideAmong, AreListedClaims, AreListed}
 use Rattle.theory_syntax.specs.declared.claim.Claim.{Claim, Claim-F, fold-roll-Claim}
 use Rattle.theory_syntax.specs.declared.claim.Claim.TheVariants.{Atom, rolls-Atom}
 use Rattle.theory_syntax.specs.declared.expr.Expr.{Expr}
@@ -23,7 +26,8 @@ tree-Atom c u rel v is =
     sym (ap claim_of is ∙ ap claim_of (sym (rolls-Atom u rel v)) ∙ fold-roll-Claim claim.Claim claim_step (Claim-F.Atom u rel v))
 
 -- the formula of an atom that stands or is negated
-pub atom_written : (ns : List Name) (b : Bool) (u v : claim.Expr) (rel used : Rel) (result : Result Formula Limit) → used ≡ (if b then rel else opposite_rel rel)
+pub atom_written : (ns : List Name) (b : Bool) (u v : claim.Expr) (rel used : Rel) (result : Result Formula Limit)
+    → used ≡ (if b then rel else opposite_rel rel)
     → IfOk result (λ F. IsComparison ns u used v (formula_of F)) → IfOk result (λ F. IsFormulaOf ns (form_of b (claim.atom u rel v)) (formula_of F))
 atom_written ns true u v rel used (Ok F) is h = subst (λ r. IsComparison ns u r v (formula_of F)) is h
 atom_written ns false u v rel used (Ok F) is h = subst (λ r. IsComparison ns u r v (formula_of F)) is h
@@ -34,19 +38,21 @@ joined_claim : Bool → claim.Claim → claim.Claim → claim.Claim
 joined_claim true A B = both A B
 joined_claim false A B = either A B
 
-join_written : (ns : List Name) (all : Bool) (A B : claim.Claim) (first second result : Result Formula Limit) → IfOk first (λ F. IsFormulaOf ns A (formula_of F))
-    → IfOk second (λ F. IsFormulaOf ns B (formula_of F)) → Joins all first second result → IfOk result (λ F. IsFormulaOf ns (joined_claim all A B) (formula_of F))
+join_written : (ns : List Name) (all : Bool) (A B : claim.Claim) (first second result : Result Formula Limit)
+    → IfOk first (λ F. IsFormulaOf ns A (formula_of F))
+    → IfOk second (λ F. IsFormulaOf ns B (formula_of F)) → Joins all first second result
+    → IfOk result (λ F. IsFormulaOf ns (joined_claim all A B) (formula_of F))
 unfolding joined_claim
-join_written ns true A B (Ok F) (Ok G) (Ok H) a b h =
-    (plain.more (formula_of F) (plain.more (formula_of G) plain.none),
-      (formula_of F, plain.more (formula_of G) plain.none, a, (formula_of G, plain.none, b, refl, refl), refl),
-      h,
-    )
-join_written ns false A B (Ok F) (Ok G) (Ok H) a b h =
-    (plain.more (formula_of F) (plain.more (formula_of G) plain.none),
-      (formula_of F, plain.more (formula_of G) plain.none, a, (formula_of G, plain.none, b, refl, refl), refl),
-      h,
-    )
+join_written ns true A B (Ok F) (Ok G) (Ok H) a b h = (
+  plain.more (formula_of F) (plain.more (formula_of G) plain.none),
+  (formula_of F, plain.more (formula_of G) plain.none, a, (formula_of G, plain.none, b, refl, refl), refl),
+  h,
+)
+join_written ns false A B (Ok F) (Ok G) (Ok H) a b h = (
+  plain.more (formula_of F) (plain.more (formula_of G) plain.none),
+  (formula_of F, plain.more (formula_of G) plain.none, a, (formula_of G, plain.none, b, refl, refl), refl),
+  h,
+)
 join_written ns all A B (Ok F) (Ok G) (Err e) a b h = tt
 join_written ns all A B (Ok F) (Err e) result a b h = subst (λ r. IfOk r (λ H. IsFormulaOf ns (joined_claim all A B) (formula_of H))) (sym h) tt
 join_written ns all A B (Err e) second result a b h = subst (λ r. IfOk r (λ H. IsFormulaOf ns (joined_claim all A B) (formula_of H))) (sym h) tt
@@ -87,7 +93,8 @@ pub record IsReached (ns : List Name) (b : Bool) (all rest : List claim.Claim) (
   pub before : IsWideAmong ns (claim.claims_from rest) → IsWideAmong ns (claim.claims_from all)
 
 pub reached_more : (ns : List Name) (b : Bool) (all rest next : List claim.Claim) (made grown : List plain.Formula) (c : claim.Claim) (F : plain.Formula)
-    → rest ≡ c ∷ next → ((Gs : List plain.Formula) → made ++ F ∷ Gs ≡ grown ++ Gs) → IsReached ns b all rest made → IsFormulaOf ns (form_of b c) F → ¬ IsWideClaim ns c
+    → rest ≡ c ∷ next → ((Gs : List plain.Formula) → made ++ F ∷ Gs ≡ grown ++ Gs) → IsReached ns b all rest made → IsFormulaOf ns (form_of b c) F
+    → ¬ IsWideClaim ns c
     → IsReached ns b all next grown
 reached_more ns b all rest next made grown c F step same h written fits =
     let here : IsReached ns b all (c ∷ next) made = subst (λ cs. IsReached ns b all cs made) step h in
@@ -106,7 +113,15 @@ reached_end ns b all rest made step h =
     subst (λ Fs. AreFormulasOf ns (forms_of b (claim.claims_from all)) (plain.formulas_from Fs)) (append-nil made) (here.written [] (none_left ns b))
 
 -- a member more at the end
-pub grown_by_one : (old new : List Formula) (F : Formula) (Gs : List plain.Formula) → new ≡ old ++ F ∷ [] → map formula_of old ++ formula_of F ∷ Gs ≡ map formula_of new ++ Gs
+pub grown_by_one : (old new : List Formula) (F : Formula) (Gs : List plain.Formula) → new ≡ old ++ F ∷ []
+    → map formula_of old ++ formula_of F ∷ Gs ≡ map formula_of new ++ Gs
 grown_by_one old new F Gs is =
     sym (ap (λ (xs : List Formula). map formula_of xs ++ Gs) is ∙ ap (λ (ys : List plain.Formula). ys ++ Gs) (map-append formula_of old (F ∷ []))
     ∙ append_assoc (map formula_of old) (formula_of F ∷ []) Gs)
+
+-- the lowered formula has the truth of the sentence
+pub answers_lowered : (ns : List Name) (cs : List claim.Claim) (result : Result Formula LowerFault) → length ns ≤ 32 → AreListed ns cs
+    → IfOk result (λ F. IsLowered ns cs (formula_of F))
+    → IfOk result (λ F. (p : Point) → plain.truth_at (formula_of F) (values_of ns p) ≡ meets cs p)
+answers_lowered ns cs (Ok F) few listed h = λ p. lowered_truth ns cs (formula_of F) p few listed h
+answers_lowered ns cs (Err e) few listed h = tt

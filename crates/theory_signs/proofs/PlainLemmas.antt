@@ -17,7 +17,8 @@ pub negated-And : (F : Formula) (Fs Gs : Vec Formula Global) (xs : List Formula)
     → map formula_of Gs.items ≡ map plain.negated (map formula_of xs) → formula_of (Or Gs) ≡ plain.negated (formula_of F)
 negated-And F Fs Gs xs is same all =
     formula_of-Or Gs
-    ∙ ap (λ (Hs : List plain.Formula). plain.disjunction (plain.formulas_from Hs)) (all ∙ ap (λ (ys : List Formula). map plain.negated (map formula_of ys)) same)
+    ∙ ap (λ (Hs : List plain.Formula). plain.disjunction (plain.formulas_from Hs)) (all ∙ ap (λ (ys : List Formula). map plain.negated (map formula_of
+    ys)) same)
     ∙ ap plain.disjunction (sym (negated_all_from (map formula_of Fs.items)))
     ∙ ap plain.negated (sym (ap formula_of is ∙ formula_of-And Fs))
 
@@ -25,6 +26,7 @@ pub negated-Or : (F : Formula) (Fs Gs : Vec Formula Global) (xs : List Formula) 
     → map formula_of Gs.items ≡ map plain.negated (map formula_of xs) → formula_of (And Gs) ≡ plain.negated (formula_of F)
 negated-Or F Fs Gs xs is same all =
     formula_of-And Gs
-    ∙ ap (λ (Hs : List plain.Formula). plain.conjunction (plain.formulas_from Hs)) (all ∙ ap (λ (ys : List Formula). map plain.negated (map formula_of ys)) same)
+    ∙ ap (λ (Hs : List plain.Formula). plain.conjunction (plain.formulas_from Hs)) (all ∙ ap (λ (ys : List Formula). map plain.negated (map formula_of
+    ys)) same)
     ∙ ap plain.conjunction (sym (negated_all_from (map formula_of Fs.items)))
     ∙ ap plain.negated (sym (ap formula_of is ∙ formula_of-Or Fs))

@@ -16,7 +16,8 @@ tree-Sum e u v x y is first second =
     two plain.sum u.value v.value x y first second
     ∙ sym (ap expr_of is ∙ ap expr_of (sym (rolls-Sum u v)) ∙ fold-roll-Expr plain.Expr expr_step (Expr-F.Sum u v))
 
-pub tree-Diff : (e : Expr) (u v : Box Expr Global) (x y : Expr) → e ≡ Diff u v → x ≡ u.value → y ≡ v.value → plain.difference (expr_of x) (expr_of y) ≡ expr_of e
+pub tree-Diff : (e : Expr) (u v : Box Expr Global) (x y : Expr) → e ≡ Diff u v → x ≡ u.value → y ≡ v.value
+    → plain.difference (expr_of x) (expr_of y) ≡ expr_of e
 tree-Diff e u v x y is first second =
     two plain.difference u.value v.value x y first second
     ∙ sym (ap expr_of is ∙ ap expr_of (sym (rolls-Diff u v)) ∙ fold-roll-Expr plain.Expr expr_step (Expr-F.Diff u v))
@@ -42,12 +43,14 @@ tree-Not c a x is first =
     ap (λ z. plain.negation (claim_of z)) first
     ∙ sym (ap claim_of is ∙ ap claim_of (sym (rolls-Not a)) ∙ fold-roll-Claim plain.Claim claim_step (Claim-F.Not a))
 
-pub tree-Implies : (c : Claim) (a b : Box Claim Global) (x y : Claim) → c ≡ Implies a b → x ≡ a.value → y ≡ b.value → plain.implication (claim_of x) (claim_of y) ≡ claim_of c
+pub tree-Implies : (c : Claim) (a b : Box Claim Global) (x y : Claim) → c ≡ Implies a b → x ≡ a.value → y ≡ b.value
+    → plain.implication (claim_of x) (claim_of y) ≡ claim_of c
 tree-Implies c a b x y is first second =
     ap₂ (λ (m n : Claim). plain.implication (claim_of m) (claim_of n)) first second
     ∙ sym (ap claim_of is ∙ ap claim_of (sym (rolls-Implies a b)) ∙ fold-roll-Claim plain.Claim claim_step (Claim-F.Implies a b))
 
-pub tree-Iff : (c : Claim) (a b : Box Claim Global) (x y : Claim) → c ≡ Iff a b → x ≡ a.value → y ≡ b.value → plain.equivalence (claim_of x) (claim_of y) ≡ claim_of c
+pub tree-Iff : (c : Claim) (a b : Box Claim Global) (x y : Claim) → c ≡ Iff a b → x ≡ a.value → y ≡ b.value
+    → plain.equivalence (claim_of x) (claim_of y) ≡ claim_of c
 tree-Iff c a b x y is first second =
     ap₂ (λ (m n : Claim). plain.equivalence (claim_of m) (claim_of n)) first second
     ∙ sym (ap claim_of is ∙ ap claim_of (sym (rolls-Iff a b)) ∙ fold-roll-Claim plain.Claim claim_step (Claim-F.Iff a b))

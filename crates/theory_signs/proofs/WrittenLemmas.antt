@@ -70,7 +70,8 @@ pub written-Or : (ns : List Name) (F : made.Formula) (Fs : Vec made.Formula Glob
     → c ≡ written_claim ns (formula_of F)
 written-Or ns F Fs xs cs c is same all either =
     either
-    ∙ ap (λ (ds : List plain.Claim). either_of (plain.claims_from ds)) (all ∙ ap (λ (ys : List made.Formula). map (written_claim ns) (map formula_of ys)) same)
+    ∙ ap (λ (ds : List plain.Claim). either_of (plain.claims_from ds)) (all ∙ ap (λ (ys : List made.Formula). map (written_claim ns) (map formula_of ys))
+    same)
     ∙ ap either_of (written_claims_from ns (map formula_of Fs.items))
     ∙ ap (written_claim ns) (sym (ap formula_of is ∙ formula_of-Or Fs))
 

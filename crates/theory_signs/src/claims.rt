@@ -20,7 +20,8 @@ use theory_syntax::{Claim, Claims, Expr, Rel};
 /// The claim that is written for a formula, where symbol k has the k-th name.
 pub fn claim_of(alloc: Global, formula: &Formula, symbols: &Names) -> Result<Claim, NoMemory>
     requires { EachAtom (IsNamed symbols.now) (formula_of formula.now) }
-    ensures written { IfOk result (λ c. tree_of c ≡ written_claim symbols.now (formula_of formula.now)) }
+    ensures written { IfOk result (λ c.
+        tree_of c ≡ written_claim symbols.now (formula_of formula.now)) }
 
     // At every point it is true exactly where the formula is at the values of the names.
     ensures truth { IfOk result (λ c. (p : Point) →
@@ -56,7 +57,8 @@ fn all_written(alloc: Global, formulas: &[Formula], names: &[Name]) -> Result<Cl
 
 /// The polynomial of an atom in its relation to 0.
 fn comparison(alloc: Global, atom: &Atom, names: &[Name]) -> Result<Claim, NoMemory>
-    ensures { IfOk result (λ c. tree_of c ≡ written_claim names.now (plain.atom atom.now.poly atom.now.signs)) }
+    ensures { IfOk result (λ c.
+        tree_of c ≡ written_claim names.now (plain.atom atom.now.poly atom.now.signs)) }
 {
     let left = polynomial(alloc, names, atom.poly().terms())?;
     Ok(Claim::Atom(left, relation(atom.signs()), Expr::Num(Frac::zero())))

@@ -7,7 +7,8 @@ use theory_syntax::Claim;
 
 /// The number of atoms of the claims' normal forms, where 513 stands for each number above 512.
 pub fn size_of_all(claims: &[Claim]) -> u32
-    ensures { result ≡ min 513 (atom_count_of_all (normal_forms (claims_from (claims_of claims.now)))) }
+    ensures { result
+        ≡ min 513 (atom_count_of_all (normal_forms (claims_from (claims_of claims.now)))) }
 {
     all_sizes(claims)
 }
@@ -30,7 +31,8 @@ fn size(claim: &Claim) -> u32
 
 #[cycle(size)]
 fn all_sizes(claims: &[Claim]) -> u32
-    ensures { result ≡ min 513 (atom_count_of_all (normal_forms (claims_from (claims_of claims.now)))) }
+    ensures { result
+        ≡ min 513 (atom_count_of_all (normal_forms (claims_from (claims_of claims.now)))) }
 {
     let mut all = 0;
     for claim in claims {

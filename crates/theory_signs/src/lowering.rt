@@ -27,14 +27,37 @@ use theory_syntax::{Claim, Expr, Rel, Sentence};
 pub fn lower(alloc: Global, sentence: &Sentence) -> Result<Formula, LowerFault>
     requires few { length sentence.now.symbols ≤ 32 }
     requires listed { AreListed sentence.now.symbols (claims_of sentence.now.conjuncts.items) }
-    ensures written { IfOk result (λ F. IsLowered sentence.now.symbols (claims_of sentence.now.conjuncts.items) (formula_of F)) }
+    ensures written { IfOk result (λ F. IsLowered sentence.now.symbols
+        (claims_of sentence.now.conjuncts.items) (formula_of F)) }
+    ensures fault { LowersWhere (IsLarge (claims_of sentence.now.conjuncts.items))
+        (AreWide sentence.now.symbols (claims_of sentence.now.conjuncts.items)) result }
+
+    // At every named point it is true exactly where the sentence is met.
+    ensures truth { IfOk result (λ F. (p : Point) →
+        truth_at (formula_of F) (values_of sentence.now.symbols p)
+        ≡ meets (claims_of sentence.now.conjuncts.items) p) }
+{
+    conjuncts_lowered(alloc, sentence)
+}
+
+/// The conjunction of the conjuncts' formulas.
+fn conjuncts_lowered(alloc: Global, sentence: &Sentence) -> Result<Formula, LowerFault>
+    requires few { length sentence.now.symbols ≤ 32 }
+    requires listed { AreListed sentence.now.symbols (claims_of sentence.now.conjuncts.items) }
+    ensures written { IfOk result (λ F. IsLowered sentence.now.symbols
+        (claims_of sentence.now.conjuncts.items) (formula_of F)) }
     ensures fault { LowersWhere (IsLarge (claims_of sentence.now.conjuncts.items))
         (AreWide sentence.now.symbols (claims_of sentence.now.conjuncts.items)) result }
 {
     if size_of_all(&sentence.conjuncts) > 512 {
         return Err(LowerFault::Large);
     }
-    match all_lowered(alloc, sentence.symbols.as_slice(), true, &sentence.conjuncts) {
+    match all_lowered(
+        alloc,
+        sentence.symbols.as_slice(),
+        true,
+        &sentence.conjuncts,
+    ) {
         Ok(members) => Ok(Formula::And(members)),
         Err(Limit::Wide) => Err(LowerFault::Wide),
         Err(Limit::Memory) => Err(LowerFault::Memory),
@@ -46,7 +69,8 @@ pub fn lower(alloc: Global, sentence: &Sentence) -> Result<Formula, LowerFault>
 fn lowered(alloc: Global, names: &[Name], stands: bool, claim: &Claim) -> Result<Formula, Limit>
     requires few { length names.now ≤ 32 }
     requires listed { IsListedClaim names.now (tree_of claim.now) }
-    ensures written { IfOk result (λ F. IsFormulaOf names.now (form_of stands (tree_of claim.now)) (formula_of F)) }
+    ensures written { IfOk result (λ F.
+        IsFormulaOf names.now (form_of stands (tree_of claim.now)) (formula_of F)) }
     ensures wide { WideWhere (IsWideClaim names.now (tree_of claim.now)) result }
 {
     match claim {
@@ -82,10 +106,16 @@ fn lowered(alloc: Global, names: &[Name], stands: bool, claim: &Claim) -> Result
 }
 
 #[cycle(lowered)]
-fn all_lowered(alloc: Global, names: &[Name], stands: bool, claims: &[Claim]) -> Result<Formulas, Limit>
+fn all_lowered(
+    alloc: Global,
+    names: &[Name],
+    stands: bool,
+    claims: &[Claim],
+) -> Result<Formulas, Limit>
     requires few { length names.now ≤ 32 }
     requires listed { AreListedClaims names.now (claims_from (claims_of claims.now)) }
-    ensures written { IfOk result (λ Fs. AreFormulasOf names.now (forms_of stands (claims_from (claims_of claims.now)))
+    ensures written { IfOk result (λ Fs. AreFormulasOf names.now
+        (forms_of stands (claims_from (claims_of claims.now)))
         (formulas_from (map formula_of Fs.items))) }
     ensures wide { WideWhere (IsWideAmong names.now (claims_from (claims_of claims.now))) result }
 {
@@ -112,7 +142,8 @@ fn comparison(alloc: Global, names: &[Name], u: &Expr, rel: Rel, v: &Expr) -> Re
     requires few { length names.now ≤ 32 }
     requires left { IsListedExpr names.now (expr_of u.now) }
     requires right { IsListedExpr names.now (expr_of v.now) }
-    ensures written { IfOk result (λ F. IsComparison names.now (expr_of u.now) rel (expr_of v.now) (formula_of F)) }
+    ensures written { IfOk result (λ F.
+        IsComparison names.now (expr_of u.now) rel (expr_of v.now) (formula_of F)) }
     ensures wide { WideWhere (IsWideAtom names.now (expr_of u.now) (expr_of v.now)) result }
 {
     let left = quotient(alloc, names, u);

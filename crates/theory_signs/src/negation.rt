@@ -36,7 +36,8 @@ fn opposite(alloc: Global, formula: &Formula) -> Result<Formula, NoMemory>
 
 #[cycle(opposite)]
 fn opposites(alloc: Global, formulas: &[Formula]) -> Result<Formulas, NoMemory>
-    ensures { IfOk result (λ Fs. map formula_of Fs.items ≡ map negated (map formula_of formulas.now)) }
+    ensures { IfOk result (λ Fs.
+        map formula_of Fs.items ≡ map negated (map formula_of formulas.now)) }
 {
     let mut all = Vec::new(alloc);
     for formula in formulas {

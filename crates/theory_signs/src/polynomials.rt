@@ -31,7 +31,8 @@ pub fn polynomial(alloc: Global, names: &[Name], terms: &[Term]) -> Result<Expr,
 fn added(alloc: Global, before: Option<Expr>, next: Expr, minus: bool) -> Result<Expr, NoMemory>
     ensures { IfOk result (λ e. MatchOption before
         (expr_of e ≡ (if minus then opposite (expr_of next) else expr_of next))
-        (λ u. expr_of e ≡ (if minus then difference (expr_of u) (expr_of next) else sum (expr_of u) (expr_of next)))) }
+        (λ u. expr_of e ≡ (if minus then difference (expr_of u) (expr_of next)
+        else sum (expr_of u) (expr_of next)))) }
 {
     match before {
         None => {
@@ -75,7 +76,8 @@ fn factors(alloc: Global, names: &[Name], powers: &[u8]) -> Result<Vec<Expr>, No
 
 /// Adds a power of a name at the end: an exponent above 8 as the eighth power and the rest.
 fn push_power(alloc: Global, all: &mut Vec<Expr>, name: &Name, exponent: u8) -> Result<(), NoMemory>
-    ensures { OnOk result (map expr_of all.new.items ≡ map expr_of all.old.items ++ power_factors name.now exponent) }
+    ensures { OnOk result (map expr_of all.new.items
+        ≡ map expr_of all.old.items ++ power_factors name.now exponent) }
 {
     let mut rest = exponent;
     if exponent > 8 {

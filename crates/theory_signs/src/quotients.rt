@@ -72,7 +72,8 @@ fn symbol(alloc: Global, names: &[Name], name: &Name) -> Result<RatPoly, NoMemor
     requires few { length names.now ≤ 32 }
     requires listed { place_of name.now names.now < length names.now }
     ensures value { IfOk result (IsLowestOf (over (symbol_of (place_of name.now names.now)) 1)) }
-    ensures fits { OnOk result (¬ IsQuotientBeyond (over (symbol_of (place_of name.now names.now)) 1)) }
+    ensures fits { OnOk result
+        (¬ IsQuotientBeyond (over (symbol_of (place_of name.now names.now)) 1)) }
 {
     let poly = Poly::symbol(alloc, place(names, name) as u8)?;
     Ok(lowest(poly, 1))
@@ -92,7 +93,7 @@ fn lowest(poly: Poly, below: i64) -> RatPoly
 }
 
 /// The place of a name, and the length of the list where it isn't there.
-fn place(names: &[Name], name: &Name) -> usize
+pub fn place(names: &[Name], name: &Name) -> usize
     ensures { result ≡ place_of name.now names.now }
 {
     for i in 0..names.len() {

@@ -46,7 +46,8 @@ all_lowered-loop-claim-preserved t c =
     let all = c.args.claims.now in
     let old = c.loop-claim.all.items in
     let new = c.keep.new.members.items in
-    reached_more c.args.names.now c.args.stands (claims_of all) (claims_of (drop i all)) (claims_of (drop (i + 1) all)) (map formula_of old) (map formula_of new)
+    reached_more c.args.names.now c.args.stands (claims_of all) (claims_of (drop i all)) (claims_of (drop (i + 1) all)) (map formula_of old) (map
+    formula_of new)
     _ (formula_of c.in-Ok.formula) (drop_step all i _ c.loop-claim-test.true c.claim-item.is)
     (λ Gs. grown_by_one old new c.in-Ok.formula Gs c.in_ok-keep-in-Ok.ensures) c.loop-claim.invariant c.in-Ok.ensures.written c.in-Ok.ensures.wide
 

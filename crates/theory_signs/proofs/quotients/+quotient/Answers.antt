@@ -13,7 +13,8 @@ returns-in-Sum-clause-value t c =
     let ns = c.args.names.now in
     let u = c.deref.result.now in
     let v = c.deref-in-Sum.result.now in
-    subst (λ e. IfOk c.combined.result (IsFormOf ns e)) (tree-Sum c.args.expr.now c.in-Sum.u c.in-Sum.v u v c.in-Sum.is c.deref.ensures c.deref-in-Sum.ensures)
+    subst (λ e. IfOk c.combined.result (IsFormOf ns e)) (tree-Sum c.args.expr.now c.in-Sum.u c.in-Sum.v u v c.in-Sum.is c.deref.ensures
+    c.deref-in-Sum.ensures)
     (combined_value sum_of_quotients (IsFormOf ns (expr_of u)) (IsFormOf ns (expr_of v)) c.quotient.result c.quotient-in-Sum.result c.combined.result
     c.quotient.ensures.value c.quotient-in-Sum.ensures.value c.combined.ensures)
 
@@ -22,7 +23,8 @@ returns-in-Sum-clause-wide t c =
     let ns = c.args.names.now in
     let u = c.deref.result.now in
     let v = c.deref-in-Sum.result.now in
-    subst (λ e. WideWhere (IsWideExpr ns e) c.combined.result) (tree-Sum c.args.expr.now c.in-Sum.u c.in-Sum.v u v c.in-Sum.is c.deref.ensures c.deref-in-Sum.ensures)
+    subst (λ e. WideWhere (IsWideExpr ns e) c.combined.result) (tree-Sum c.args.expr.now c.in-Sum.u c.in-Sum.v u v c.in-Sum.is c.deref.ensures
+    c.deref-in-Sum.ensures)
     (combined_wide sum_of_quotients (IsFormOf ns (expr_of u)) (IsFormOf ns (expr_of v)) (IsWideExpr ns (expr_of u)) (IsWideExpr ns (expr_of v))
     c.quotient.result c.quotient-in-Sum.result c.combined.result (form ns (expr_of u)) (form ns (expr_of v))
     c.quotient.ensures.value c.quotient-in-Sum.ensures.value c.quotient.ensures.wide c.quotient-in-Sum.ensures.wide c.combined.ensures)
@@ -32,8 +34,10 @@ returns-in-Diff-clause-value t c =
     let ns = c.args.names.now in
     let u = c.deref-in-Diff.result.now in
     let v = c.deref-in-Diff-2.result.now in
-    subst (λ e. IfOk c.combined-in-Diff.result (IsFormOf ns e)) (tree-Diff c.args.expr.now c.in-Diff.u c.in-Diff.v u v c.in-Diff.is c.deref-in-Diff.ensures c.deref-in-Diff-2.ensures)
-    (combined_value difference_of_quotients (IsFormOf ns (expr_of u)) (IsFormOf ns (expr_of v)) c.quotient-in-Diff.result c.quotient-in-Diff-2.result c.combined-in-Diff.result
+    subst (λ e. IfOk c.combined-in-Diff.result (IsFormOf ns e)) (tree-Diff c.args.expr.now c.in-Diff.u c.in-Diff.v u v c.in-Diff.is
+    c.deref-in-Diff.ensures c.deref-in-Diff-2.ensures)
+    (combined_value difference_of_quotients (IsFormOf ns (expr_of u)) (IsFormOf ns (expr_of v)) c.quotient-in-Diff.result c.quotient-in-Diff-2.result
+    c.combined-in-Diff.result
     c.quotient-in-Diff.ensures.value c.quotient-in-Diff-2.ensures.value c.combined-in-Diff.ensures)
 
 pub returns-in-Diff-clause-wide : goal.returns-in-Diff-clause-wide
@@ -41,18 +45,22 @@ returns-in-Diff-clause-wide t c =
     let ns = c.args.names.now in
     let u = c.deref-in-Diff.result.now in
     let v = c.deref-in-Diff-2.result.now in
-    subst (λ e. WideWhere (IsWideExpr ns e) c.combined-in-Diff.result) (tree-Diff c.args.expr.now c.in-Diff.u c.in-Diff.v u v c.in-Diff.is c.deref-in-Diff.ensures c.deref-in-Diff-2.ensures)
+    subst (λ e. WideWhere (IsWideExpr ns e) c.combined-in-Diff.result) (tree-Diff c.args.expr.now c.in-Diff.u c.in-Diff.v u v c.in-Diff.is
+    c.deref-in-Diff.ensures c.deref-in-Diff-2.ensures)
     (combined_wide difference_of_quotients (IsFormOf ns (expr_of u)) (IsFormOf ns (expr_of v)) (IsWideExpr ns (expr_of u)) (IsWideExpr ns (expr_of v))
     c.quotient-in-Diff.result c.quotient-in-Diff-2.result c.combined-in-Diff.result (form ns (expr_of u)) (form ns (expr_of v))
-    c.quotient-in-Diff.ensures.value c.quotient-in-Diff-2.ensures.value c.quotient-in-Diff.ensures.wide c.quotient-in-Diff-2.ensures.wide c.combined-in-Diff.ensures)
+    c.quotient-in-Diff.ensures.value c.quotient-in-Diff-2.ensures.value c.quotient-in-Diff.ensures.wide c.quotient-in-Diff-2.ensures.wide
+    c.combined-in-Diff.ensures)
 
 pub returns-in-Prod-clause-value : goal.returns-in-Prod-clause-value
 returns-in-Prod-clause-value t c =
     let ns = c.args.names.now in
     let u = c.deref-in-Prod.result.now in
     let v = c.deref-in-Prod-2.result.now in
-    subst (λ e. IfOk c.combined-in-Prod.result (IsFormOf ns e)) (tree-Prod c.args.expr.now c.in-Prod.u c.in-Prod.v u v c.in-Prod.is c.deref-in-Prod.ensures c.deref-in-Prod-2.ensures)
-    (combined_value product_of_quotients (IsFormOf ns (expr_of u)) (IsFormOf ns (expr_of v)) c.quotient-in-Prod.result c.quotient-in-Prod-2.result c.combined-in-Prod.result
+    subst (λ e. IfOk c.combined-in-Prod.result (IsFormOf ns e)) (tree-Prod c.args.expr.now c.in-Prod.u c.in-Prod.v u v c.in-Prod.is
+    c.deref-in-Prod.ensures c.deref-in-Prod-2.ensures)
+    (combined_value product_of_quotients (IsFormOf ns (expr_of u)) (IsFormOf ns (expr_of v)) c.quotient-in-Prod.result c.quotient-in-Prod-2.result
+    c.combined-in-Prod.result
     c.quotient-in-Prod.ensures.value c.quotient-in-Prod-2.ensures.value c.combined-in-Prod.ensures)
 
 pub returns-in-Prod-clause-wide : goal.returns-in-Prod-clause-wide
@@ -60,10 +68,12 @@ returns-in-Prod-clause-wide t c =
     let ns = c.args.names.now in
     let u = c.deref-in-Prod.result.now in
     let v = c.deref-in-Prod-2.result.now in
-    subst (λ e. WideWhere (IsWideExpr ns e) c.combined-in-Prod.result) (tree-Prod c.args.expr.now c.in-Prod.u c.in-Prod.v u v c.in-Prod.is c.deref-in-Prod.ensures c.deref-in-Prod-2.ensures)
+    subst (λ e. WideWhere (IsWideExpr ns e) c.combined-in-Prod.result) (tree-Prod c.args.expr.now c.in-Prod.u c.in-Prod.v u v c.in-Prod.is
+    c.deref-in-Prod.ensures c.deref-in-Prod-2.ensures)
     (combined_wide product_of_quotients (IsFormOf ns (expr_of u)) (IsFormOf ns (expr_of v)) (IsWideExpr ns (expr_of u)) (IsWideExpr ns (expr_of v))
     c.quotient-in-Prod.result c.quotient-in-Prod-2.result c.combined-in-Prod.result (form ns (expr_of u)) (form ns (expr_of v))
-    c.quotient-in-Prod.ensures.value c.quotient-in-Prod-2.ensures.value c.quotient-in-Prod.ensures.wide c.quotient-in-Prod-2.ensures.wide c.combined-in-Prod.ensures)
+    c.quotient-in-Prod.ensures.value c.quotient-in-Prod-2.ensures.value c.quotient-in-Prod.ensures.wide c.quotient-in-Prod-2.ensures.wide
+    c.combined-in-Prod.ensures)
 
 pub returns-in-Neg-clause-wide : goal.returns-in-Neg-clause-wide
 returns-in-Neg-clause-wide t c =

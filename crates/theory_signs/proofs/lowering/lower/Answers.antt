@@ -1,0 +1,8 @@
+use Rattle.theory_syntax.specs.Plain.{claims_of}
+use Rattle.theory_signs.proofs.LoweringLemmas.{answers_lowered}
+use Rattle.theory_signs.proofs.lowering.lower.Goals as goal
+
+pub returns-clause-truth : goal.returns-clause-truth
+returns-clause-truth c =
+    answers_lowered c.args.sentence.now.symbols (claims_of c.args.sentence.now.conjuncts.items) c.conjuncts_lowered.result c.requires.few c.requires.listed
+    c.conjuncts_lowered.ensures.written
