@@ -32,3 +32,5 @@ pub mod ClaimLevels
 pub mod PrintedClaims
 pub mod PrintedLines
 pub mod Outcomes
+pub mod PlainLaws
+pub mod PrintedTexts
