@@ -61,27 +61,27 @@ abbrev pub sides_text : Expr → Rel → Expr → List ℕ
 sides_text u rel v = expr_text u ++ codes " " ++ relation_bytes rel ++ codes " " ++ expr_text v
 
 -- a claim that stands as a member of a conjunction, or behind `not`
-abbrev pub is_neg : Claim → Bool
-is_neg (conjunction cs) = false
-is_neg (disjunction cs) = false
-is_neg (implication a b) = false
-is_neg (equivalence a b) = false
-is_neg _ = true
+abbrev pub is_conjunct : Claim → Bool
+is_conjunct (conjunction cs) = false
+is_conjunct (disjunction cs) = false
+is_conjunct (implication a b) = false
+is_conjunct (equivalence a b) = false
+is_conjunct _ = true
 
 -- one that stands as a member of a disjunction
-abbrev pub is_con : Claim → Bool
-is_con (conjunction cs) = true
-is_con c = is_neg c
+abbrev pub is_disjunct : Claim → Bool
+is_disjunct (conjunction cs) = true
+is_disjunct c = is_conjunct c
 
 -- one that stands before `implies`
-abbrev pub is_dis : Claim → Bool
-is_dis (disjunction cs) = true
-is_dis c = is_con c
+abbrev pub is_premise : Claim → Bool
+is_premise (disjunction cs) = true
+is_premise c = is_disjunct c
 
 -- one that stands behind `implies`, or beside `iff`
-abbrev pub is_imp : Claim → Bool
-is_imp (equivalence a b) = false
-is_imp _ = true
+abbrev pub is_side : Claim → Bool
+is_side (equivalence a b) = false
+is_side _ = true
 
 -- each part behind the word
 abbrev pub further : List ℕ → List (List ℕ) → List ℕ
@@ -98,21 +98,21 @@ abbrev mutual
   claim_text always = codes "true"
   claim_text never = codes "false"
   claim_text (atom u rel v) = sides_text u rel v
-  claim_text (negation c) = codes "not " ++ square_unless (is_neg c) (claim_text c)
+  claim_text (negation c) = codes "not " ++ square_unless (is_conjunct c) (claim_text c)
   claim_text (conjunction cs) = joined (codes "true") (codes " and ") (conjuncts cs)
   claim_text (disjunction cs) = joined (codes "false") (codes " or ") (disjuncts cs)
-  claim_text (implication a b) = square_unless (is_dis a) (claim_text a) ++ codes " implies " ++ square_unless (is_imp b) (claim_text b)
-  claim_text (equivalence a b) = square_unless (is_imp a) (claim_text a) ++ codes " iff " ++ square_unless (is_imp b) (claim_text b)
+  claim_text (implication a b) = square_unless (is_premise a) (claim_text a) ++ codes " implies " ++ square_unless (is_side b) (claim_text b)
+  claim_text (equivalence a b) = square_unless (is_side a) (claim_text a) ++ codes " iff " ++ square_unless (is_side b) (claim_text b)
 
   -- the members of a conjunction
   pub conjuncts : Claims → List (List ℕ)
   conjuncts none = []
-  conjuncts (more c cs) = square_unless (is_neg c) (claim_text c) ∷ conjuncts cs
+  conjuncts (more c cs) = square_unless (is_conjunct c) (claim_text c) ∷ conjuncts cs
 
   -- the members of a disjunction
   pub disjuncts : Claims → List (List ℕ)
   disjuncts none = []
-  disjuncts (more c cs) = square_unless (is_con c) (claim_text c) ∷ disjuncts cs
+  disjuncts (more c cs) = square_unless (is_disjunct c) (claim_text c) ∷ disjuncts cs
 
 -- the parameter that a claim shifts
 abbrev pub shift_text : Option Name → List ℕ
