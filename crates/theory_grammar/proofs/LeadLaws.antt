@@ -16,7 +16,9 @@ use Rattle.theory_grammar.specs.declared.words.Keyword.TheVariants as reserved
 use Rattle.theory_grammar.specs.declared.words.Mark.{Mark}
 use Rattle.theory_grammar.specs.declared.unreadable.Unreadable.TheVariants.{LiteralWide}
 use Rattle.theory_grammar.specs.Token.{Token, keyword, number, mark, relation}
-use Rattle.theory_grammar.specs.Scan.{keyword_bytes, mark_byte, relation_bytes, Lexeme, word, digits, sign, comparison, spelling, IsLongest, token, fault, meaning, number_of, Placed, End, complete, Reads, over, blank, read}
+use Rattle.theory_grammar.specs.Signs.{keyword_bytes, mark_byte, relation_bytes}
+use Rattle.theory_grammar.specs.Lexeme.{Lexeme, word, digits, sign, comparison, spelling, IsLongest, token, fault, meaning, number_of}
+use Rattle.theory_grammar.specs.Scan.{Placed, End, complete, Reads, over, blank, read}
 use Rattle.theory_grammar.specs.TextFault.{tokens_of}
 use Rattle.theory_grammar.specs.Runs.{first_passes, begins_a_dotted_part}
 use Rattle.theory_grammar.proofs.PlainLaws.{is_plain, plain_append, plain_lexeme}

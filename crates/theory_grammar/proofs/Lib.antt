@@ -34,3 +34,4 @@ pub mod PrintedLines
 pub mod Outcomes
 pub mod PlainLaws
 pub mod PrintedTexts
+pub mod FitLaws

@@ -10,7 +10,7 @@ use Rattle.std.proofs.lemmas.Str.Ascii.{IsAscii-nil, IsAscii-cons}
 use Rattle.theory_meaning.specs.declared.words.Rel.TheVariants.{Eq, Ne, Lt, Le, Gt, Ge}
 use Rattle.theory_meaning.specs.Identifier.{is_digit, is_word_byte, is_word}
 use Rattle.theory_grammar.specs.declared.words.Mark.TheVariants.{Open, Close, OpenSquare, CloseSquare, Plus, Minus, Times, Over, Power, Colon}
-use Rattle.theory_grammar.specs.Scan.{Lexeme, word, pair, digits, sign, comparison, spelling, IsLexeme}
+use Rattle.theory_grammar.specs.Lexeme.{Lexeme, word, pair, digits, sign, comparison, spelling, IsLexeme}
 use Rattle.theory_grammar.specs.OneLine.{has_no_feed}
 use Rattle.theory_grammar.proofs.LongestLaws.{word_bytes}
 

@@ -9,7 +9,8 @@ use Rattle.theory_grammar.specs.declared.words.Keyword.{Keyword}
 use Rattle.theory_grammar.specs.declared.words.Keyword.TheVariants as word
 use Rattle.theory_grammar.specs.declared.words.Mark.TheVariants as sign
 use Rattle.theory_grammar.specs.Token.{Token, keyword, name, mark, relation}
-use Rattle.theory_grammar.specs.Scan.{keyword_bytes, complete}
+use Rattle.theory_grammar.specs.Signs.{keyword_bytes}
+use Rattle.theory_grammar.specs.Scan.{complete}
 use Rattle.theory_grammar.specs.Spelled.{every, IsLine, model_line, var_line, param_line, function_line, equation_line, assume_line, claim_line, shift_line, IsOp, put, drop}
 use Rattle.theory_grammar.specs.TextFault.{SpellsOne}
 use Rattle.theory_grammar.specs.Printed.{further, line_text, op_text}

@@ -7,7 +7,7 @@ use Rattle.theory_meaning.specs.Fraction.{Fraction}
 use Rattle.theory_meaning.specs.Point.{Name}
 use Rattle.theory_meaning.specs.Tree.{Expr, number, symbol, sum, difference, opposite, product, power, Claim, always, never, atom, negation, conjunction, disjunction, implication, equivalence, Claims, none, more, Line, model, var, param, function, equation, assume, claim}
 use Rattle.theory_meaning.specs.Text.{Op, put_line, drop_key}
-use Rattle.theory_grammar.specs.Scan.{relation_bytes}
+use Rattle.theory_grammar.specs.Signs.{relation_bytes}
 
 -- the denominator behind a slash, or nothing for a whole number
 abbrev pub below_text : ℕ → List ℕ
@@ -23,10 +23,11 @@ abbrev pub unless : Bool → List ℕ → List ℕ
 unless true sign = []
 unless false sign = sign
 
--- round and square brackets, left out where the test holds
+-- round brackets, left out where the test holds
 abbrev pub round_unless : Bool → List ℕ → List ℕ
 round_unless bare bs = unless bare (codes "(") ++ bs ++ unless bare (codes ")")
 
+-- square brackets, left out where the test holds
 abbrev pub square_unless : Bool → List ℕ → List ℕ
 square_unless bare bs = unless bare (codes "[") ++ bs ++ unless bare (codes "]")
 
@@ -47,6 +48,7 @@ is_primary (number q) = (q.less == 0) && not (int_lt q.num (pos 0))
 is_primary (symbol name) = true
 is_primary _ = false
 
+-- an expression, with brackets only where the grammar needs them for the same tree
 abbrev pub expr_text : Expr → List ℕ
 expr_text (number q) = fraction_text q
 expr_text (symbol name) = name
@@ -94,6 +96,7 @@ joined empty word [] = empty
 joined empty word (part ∷ parts) = part ++ further word parts
 
 abbrev mutual
+  -- a claim, with brackets only where the grammar needs them for the same tree
   pub claim_text : Claim → List ℕ
   claim_text always = codes "true"
   claim_text never = codes "false"
@@ -119,6 +122,7 @@ abbrev pub shift_text : Option Name → List ℕ
 shift_text None = []
 shift_text (Some p) = codes " by " ++ p
 
+-- a line, without a line feed
 abbrev pub line_text : Line → List ℕ
 line_text (model name) = codes "model " ++ name
 line_text (var x) = codes "var " ++ x
@@ -133,6 +137,7 @@ abbrev pub text_of : List Line → List ℕ
 text_of [] = []
 text_of (line ∷ lines) = line_text line ++ 10 ∷ text_of lines
 
+-- an edit, without a line feed
 abbrev pub op_text : Op → List ℕ
 op_text (put_line line) = codes "put " ++ line_text line
 op_text (drop_key key) = codes "drop " ++ key

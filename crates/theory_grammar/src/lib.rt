@@ -17,7 +17,7 @@ pub use laws::{
     tokens_spell_one_line_or_fail_once,
 };
 pub use laws_printed::printed_forms_spell_the_same;
-pub use laws_scan::each_line_is_read_in_one_way;
+pub use laws_scan::{each_line_is_read_in_one_way, tokens_are_fit};
 pub use laws_text::{
     a_line_is_spelled_once_or_fails_once, a_text_is_spelled_once_or_fails_once,
     an_edit_text_is_spelled_once_or_fails_once,

@@ -1,7 +1,7 @@
 ghost use Rattle.std.specs.Prelude.{◌≡◌, ◌++◌, OnOk, codes, decimal};
 ghost use Rattle.std.specs.Fmt.{signed_decimal};
 ghost use Rattle.theory_grammar.specs.Printed.{fraction_text, unless};
-ghost use Rattle.theory_grammar.specs.Scan.{relation_bytes};
+ghost use Rattle.theory_grammar.specs.Signs.{relation_bytes};
 
 use std::alloc::Global;
 use theory_points::{Bytes, Frac, NoMemory};
