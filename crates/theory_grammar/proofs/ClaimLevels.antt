@@ -6,7 +6,7 @@ use Rattle.theory_meaning.specs.Tree as plain
 use Rattle.theory_grammar.specs.declared.words.Mark.TheVariants as sign
 use Rattle.theory_grammar.specs.Token.{Token, mark}
 use Rattle.theory_grammar.specs.Spelled.{every, has_room, Rank, claim, side, premise, disjunct, conjunct, IsClaim, truth, falsehood, atom, negation, bracketed, conjunction, disjunction, one_premise, implies, one_side, iff, AreConjuncts, first_conjunct, next_conjunct, AreDisjuncts, first_disjunct, next_disjunct}
-use Rattle.theory_grammar.specs.Printed.{square_unless, is_neg, is_con, is_dis, is_imp, claim_text}
+use Rattle.theory_grammar.specs.Printed.{square_unless, is_conjunct, is_disjunct, is_premise, is_side, claim_text}
 use Rattle.theory_grammar.proofs.LeadLaws.{Leads, joined_by, closed_by, nothing_more, any_open, mark_leads, apart}
 use Rattle.theory_grammar.proofs.ExprLevels.{room_before, fewer_open}
 
@@ -46,10 +46,10 @@ own (plain.equivalence a b) = claim
 -- and whether it stands so at a level
 abbrev pub stands : Rank → Claim → Bool
 stands claim c = true
-stands side c = is_imp c
-stands premise c = is_dis c
-stands disjunct c = is_con c
-stands conjunct c = is_neg c
+stands side c = is_side c
+stands premise c = is_premise c
+stands disjunct c = is_disjunct c
+stands conjunct c = is_conjunct c
 
 abbrev pub reaches : Rank → Rank → Bool
 reaches conjunct R = true
@@ -171,32 +171,32 @@ looser R S h p = record { bare = p.bare; fits = ⊎_elim (λ k. inl (h k)) (λ k
 pub lower_bare : (d : ℕ) (c : Claim) → Bare (suc d) c → Bare d c
 lower_bare d c b = record { tokens = b.tokens; spells = fewer_open_claim (suc d) d (omega arith) b.spells; leads = b.leads }
 
-pub neg_is_con : (c : Claim) → is_neg c ≡ true → is_con c ≡ true
-neg_is_con plain.always h = refl
-neg_is_con plain.never h = refl
-neg_is_con (plain.atom u r v) h = refl
-neg_is_con (plain.negation c) h = refl
-neg_is_con (plain.conjunction cs) h = refl
-neg_is_con (plain.disjunction cs) h = h
-neg_is_con (plain.implication a b) h = h
-neg_is_con (plain.equivalence a b) h = h
+pub conjunct_is_disjunct : (c : Claim) → is_conjunct c ≡ true → is_disjunct c ≡ true
+conjunct_is_disjunct plain.always h = refl
+conjunct_is_disjunct plain.never h = refl
+conjunct_is_disjunct (plain.atom u r v) h = refl
+conjunct_is_disjunct (plain.negation c) h = refl
+conjunct_is_disjunct (plain.conjunction cs) h = refl
+conjunct_is_disjunct (plain.disjunction cs) h = h
+conjunct_is_disjunct (plain.implication a b) h = h
+conjunct_is_disjunct (plain.equivalence a b) h = h
 
-pub con_is_dis : (c : Claim) → is_con c ≡ true → is_dis c ≡ true
-con_is_dis plain.always h = refl
-con_is_dis plain.never h = refl
-con_is_dis (plain.atom u r v) h = refl
-con_is_dis (plain.negation c) h = refl
-con_is_dis (plain.conjunction cs) h = refl
-con_is_dis (plain.disjunction cs) h = refl
-con_is_dis (plain.implication a b) h = h
-con_is_dis (plain.equivalence a b) h = h
+pub disjunct_is_premise : (c : Claim) → is_disjunct c ≡ true → is_premise c ≡ true
+disjunct_is_premise plain.always h = refl
+disjunct_is_premise plain.never h = refl
+disjunct_is_premise (plain.atom u r v) h = refl
+disjunct_is_premise (plain.negation c) h = refl
+disjunct_is_premise (plain.conjunction cs) h = refl
+disjunct_is_premise (plain.disjunction cs) h = refl
+disjunct_is_premise (plain.implication a b) h = h
+disjunct_is_premise (plain.equivalence a b) h = h
 
-pub dis_is_imp : (c : Claim) → is_dis c ≡ true → is_imp c ≡ true
-dis_is_imp plain.always h = refl
-dis_is_imp plain.never h = refl
-dis_is_imp (plain.atom u r v) h = refl
-dis_is_imp (plain.negation c) h = refl
-dis_is_imp (plain.conjunction cs) h = refl
-dis_is_imp (plain.disjunction cs) h = refl
-dis_is_imp (plain.implication a b) h = refl
-dis_is_imp (plain.equivalence a b) h = h
+pub premise_is_side : (c : Claim) → is_premise c ≡ true → is_side c ≡ true
+premise_is_side plain.always h = refl
+premise_is_side plain.never h = refl
+premise_is_side (plain.atom u r v) h = refl
+premise_is_side (plain.negation c) h = refl
+premise_is_side (plain.conjunction cs) h = refl
+premise_is_side (plain.disjunction cs) h = refl
+premise_is_side (plain.implication a b) h = refl
+premise_is_side (plain.equivalence a b) h = h

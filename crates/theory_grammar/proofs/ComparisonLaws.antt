@@ -3,7 +3,8 @@ use Rattle.std.proofs.Common.{◌≡◌, ℕ, ◌≤◌, Bool, false, ◌==◌, 
 use Rattle.std.proofs.lemmas.Bool.{false≢true}
 use Rattle.theory_meaning.specs.declared.words.Rel.{Rel}
 use Rattle.theory_meaning.specs.declared.words.Rel.TheVariants.{Eq, Ne, Lt, Le, Gt, Ge}
-use Rattle.theory_grammar.specs.Scan.{relation_bytes, Lexeme, word, pair, digits, sign, comparison, spelling, IsLexeme, IsLongest, HasNoLexeme}
+use Rattle.theory_grammar.specs.Signs.{relation_bytes}
+use Rattle.theory_grammar.specs.Lexeme.{Lexeme, word, pair, digits, sign, comparison, spelling, IsLexeme, IsLongest, HasNoLexeme}
 use Rattle.theory_grammar.specs.Runs.{first_passes}
 use Rattle.theory_grammar.proofs.LexemeLaws.{other, comparison_sign, first_class, lexeme_class, begins_so, no_lexeme_is_other}
 use Rattle.theory_grammar.proofs.LongestLaws.{apart}
@@ -38,7 +39,8 @@ equals_bound rest Le behind whole = absurd (other_head 61 60 rest (61 ∷ behind
 equals_bound rest Gt behind whole = omega arith
 equals_bound rest Ge behind whole = absurd (other_head 61 62 rest (61 ∷ behind) (λ h. absurd (omega arith)) whole)
 
-less_bound : (rest : List ℕ) (r : Rel) (behind : List ℕ) → begins_with_equals rest ≡ false → 60 ∷ rest ≡ relation_bytes r ++ behind → length (relation_bytes r) ≤ 1
+less_bound : (rest : List ℕ) (r : Rel) (behind : List ℕ) → begins_with_equals rest ≡ false → 60 ∷ rest ≡ relation_bytes r ++ behind →
+    length (relation_bytes r) ≤ 1
 less_bound rest Eq behind none whole = omega arith
 less_bound rest Ne behind none whole = absurd (other_head 60 33 rest (61 ∷ behind) (λ h. absurd (omega arith)) whole)
 less_bound rest Lt behind none whole = omega arith
@@ -46,7 +48,8 @@ less_bound rest Le behind none whole = absurd (no_equals rest behind none (tails
 less_bound rest Gt behind none whole = omega arith
 less_bound rest Ge behind none whole = absurd (other_head 60 62 rest (61 ∷ behind) (λ h. absurd (omega arith)) whole)
 
-greater_bound : (rest : List ℕ) (r : Rel) (behind : List ℕ) → begins_with_equals rest ≡ false → 62 ∷ rest ≡ relation_bytes r ++ behind → length (relation_bytes r) ≤ 1
+greater_bound : (rest : List ℕ) (r : Rel) (behind : List ℕ) → begins_with_equals rest ≡ false → 62 ∷ rest ≡ relation_bytes r ++ behind →
+    length (relation_bytes r) ≤ 1
 greater_bound rest Eq behind none whole = omega arith
 greater_bound rest Ne behind none whole = absurd (other_head 62 33 rest (61 ∷ behind) (λ h. absurd (omega arith)) whole)
 greater_bound rest Lt behind none whole = omega arith

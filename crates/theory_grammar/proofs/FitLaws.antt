@@ -7,7 +7,8 @@ use Rattle.theory_meaning.specs.Identifier.{is_word, is_reserved, is_identifier}
 use Rattle.theory_meaning.specs.Limits.{bound}
 use Rattle.theory_grammar.specs.declared.words.Keyword.{Keyword}
 use Rattle.theory_grammar.specs.Token.{Token, name, number, dotted, stray}
-use Rattle.theory_grammar.specs.Scan.{Lexeme, word, pair, digits, sign, comparison, IsLexeme, token, fault, meaning, keyword_among, all_keywords, reserved_token, number_of, Placed, End, Reads, over, blank, read, unread, bad, IsFit}
+use Rattle.theory_grammar.specs.Lexeme.{Lexeme, word, pair, digits, sign, comparison, IsLexeme, token, fault, meaning, keyword_among, all_keywords, reserved_token, number_of}
+use Rattle.theory_grammar.specs.Scan.{Placed, End, Reads, over, blank, read, unread, bad, IsFit}
 use Rattle.theory_grammar.specs.declared.unreadable.Unreadable.{Unreadable}
 use Rattle.theory_grammar.specs.declared.unreadable.Unreadable.TheVariants.{BadToken, LiteralWide}
 
@@ -32,7 +33,9 @@ identifier w is_w short free =
 word_fit : (w : List ℕ) (t : Token) (long reserved : Bool) → is_word w ≡ true → nat_lt 32 (length w) ≡ long → is_reserved w ≡ reserved →
     cond long (fault BadToken) (token (cond reserved (reserved_token (keyword_among w all_keywords)) (name w))) ≡ token t → IsFit t
 word_fit w t true reserved is_w long free e = absurd (no_fault BadToken t e)
-word_fit w t false true is_w long free e = fit_same (reserved_token (keyword_among w all_keywords)) t (same_token (reserved_token (keyword_among w all_keywords)) t e) (reserved_fit (keyword_among w all_keywords))
+word_fit w t false true is_w long free e =
+    let found = reserved_token (keyword_among w all_keywords) in
+    fit_same found t (same_token found t e) (reserved_fit (keyword_among w all_keywords))
 word_fit w t false false is_w long free e = fit_same (name w) t (same_token (name w) t e) (identifier w is_w long free)
 
 pair_fit : (bs : List ℕ) (t : Token) (long reserved : Bool) → cond long (fault BadToken) (token (cond reserved stray (dotted bs))) ≡ token t → IsFit t

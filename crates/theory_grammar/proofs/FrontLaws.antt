@@ -5,7 +5,8 @@ use Rattle.theory_meaning.specs.declared.words.Rel.TheVariants.{Eq, Ne, Lt, Le, 
 use Rattle.theory_meaning.specs.Identifier.{is_letter, is_digit, is_word_byte, is_word}
 use Rattle.theory_grammar.specs.declared.words.Mark.{Mark}
 use Rattle.theory_grammar.specs.declared.unreadable.Unreadable.TheVariants.{BadToken}
-use Rattle.theory_grammar.specs.Scan.{is_blank, Lexeme, word, pair, digits, sign, comparison, spelling, IsLexeme, IsLongest, HasNoLexeme, Meaning, token, fault, meaning, Placed, End, complete, broken, IsOver, Reads, over, blank, read, unread, bad}
+use Rattle.theory_grammar.specs.Lexeme.{Lexeme, word, pair, digits, sign, comparison, spelling, IsLexeme, IsLongest, HasNoLexeme, Meaning, token, fault, meaning}
+use Rattle.theory_grammar.specs.Scan.{is_blank, Placed, End, complete, broken, IsOver, Reads, over, blank, read, unread, bad}
 use Rattle.theory_grammar.specs.Runs.{first_passes, begins_a_dotted_part}
 use Rattle.theory_grammar.proofs.RunLaws.{Run, run_of}
 use Rattle.theory_grammar.proofs.LexemeLaws.{other, class_of, is_comparison_byte, mark_of, mark_of-some}

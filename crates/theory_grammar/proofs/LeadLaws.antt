@@ -16,9 +16,12 @@ use Rattle.theory_grammar.specs.declared.words.Keyword.TheVariants as reserved
 use Rattle.theory_grammar.specs.declared.words.Mark.{Mark}
 use Rattle.theory_grammar.specs.declared.unreadable.Unreadable.TheVariants.{LiteralWide}
 use Rattle.theory_grammar.specs.Token.{Token, keyword, number, mark, relation}
-use Rattle.theory_grammar.specs.Scan.{keyword_bytes, mark_byte, relation_bytes, Lexeme, word, digits, sign, comparison, spelling, IsLongest, token, fault, meaning, number_of, Placed, End, complete, Reads, over, blank, read}
+use Rattle.theory_grammar.specs.Signs.{keyword_bytes, mark_byte, relation_bytes}
+use Rattle.theory_grammar.specs.Lexeme.{Lexeme, word, digits, sign, comparison, spelling, IsLongest, token, fault, meaning, number_of}
+use Rattle.theory_grammar.specs.Scan.{Placed, End, complete, Reads, over, blank, read}
 use Rattle.theory_grammar.specs.TextFault.{tokens_of}
 use Rattle.theory_grammar.specs.Runs.{first_passes, begins_a_dotted_part}
+use Rattle.theory_grammar.proofs.PlainLaws.{is_plain, plain_append, plain_lexeme}
 use Rattle.theory_grammar.proofs.LongestLaws.{word_longest, digits_longest, mark_longest}
 use Rattle.theory_grammar.proofs.ComparisonLaws.{begins_with_equals, EndsBefore, comparison_longest}
 
@@ -59,6 +62,7 @@ pub record ReadsOn (us : List Token) (c : ℕ) (bytes : List ℕ) (vs : List Pla
 pub record Leads (ended : Bool) (us : List Token) (bytes : List ℕ) : Type 0 where
   pub leads : (c : ℕ) (rest : List ℕ) (vs : List Placed) (e : End) → (ended ≡ true → IsApart rest) → Reads (c + length bytes) rest vs e →
       ReadsOn us c (bytes ++ rest) vs e
+  pub plain : list_all is_plain bytes ≡ true
 
 tokens_append : (ps qs : List Placed) → tokens_of (ps ++ qs) ≡ tokens_of ps ++ tokens_of qs
 tokens_append [] qs = refl
@@ -83,6 +87,7 @@ composed k m a b x y first second apart = record {
       let long : c + length (x ++ y) ≡ (c + length x) + length y = omega (arith, length-append x y) in
       let behind = second.leads (c + length x) rest vs e ended (subst (λ (n : ℕ). Reads n rest vs e) long r) in
       reads_both a b c x y rest vs e behind (first.leads c (y ++ rest) (behind.placed ++ vs) e (apart rest ended) behind.reads);
+  plain = plain_append x y first.plain second.plain;
 }
 
 -- bytes that need nothing behind them, and any others
@@ -103,7 +108,10 @@ pub nothing_more : {k : Bool} {a : List Token} {x : List ℕ} → Leads k a x �
 nothing_more {k} {a} {x} h = subst (Leads k a) (sym (append-nil x)) h
 
 pub any_open : {a : List Token} {x : List ℕ} → Leads false a x → Leads true a x
-any_open h = record { leads = λ c rest vs e ended r. h.leads c rest vs e (λ no. absurd (false≢true no)) r }
+any_open h = record { leads = λ c rest vs e ended r. h.leads c rest vs e (λ no. absurd (false≢true no)) r; plain = h.plain }
+
+nothing_is_apart : IsApart []
+nothing_is_apart = record { words = refl; dot = refl; figures = refl; equals = refl }
 
 -- a lexeme whose meaning is a token
 pub lexeme_leads : (k : Bool) (x : Lexeme) (t : Token) → meaning x ≡ token t →
@@ -115,10 +123,11 @@ lexeme_leads k x t is longest = record {
     tokens = refl;
     reads = read c (spelling x ++ rest) rest x t vs e (longest rest ended) is r;
   };
+  plain = plain_lexeme x (longest [] (λ ended. nothing_is_apart)).lexeme;
 }
 
 pub blank_leads : Leads false [] (32 ∷ [])
-blank_leads = record { leads = λ c rest vs e ended r. record { placed = []; tokens = refl; reads = blank c 32 rest vs e refl r } }
+blank_leads = record { leads = λ c rest vs e ended r. record { placed = []; tokens = refl; reads = blank c 32 rest vs e refl r }; plain = refl }
 
 pub mark_leads : (m : Mark) → Leads false (mark m ∷ []) (mark_byte m ∷ [])
 mark_leads m = lexeme_leads false (sign m) (mark m) refl (λ rest ended. mark_longest m (mark_byte m) rest refl)
@@ -210,6 +219,7 @@ no_further c = omega arith
 pub nothing_leads : Leads true [] []
 nothing_leads = record {
   leads = λ c rest vs e ended r. record { placed = []; tokens = refl; reads = subst (λ (n : ℕ). Reads n rest vs e) (no_further c) r };
+  plain = refl;
 }
 
 -- all bytes of a line
@@ -221,7 +231,7 @@ pub record LineReads (us : List Token) (bytes : List ℕ) : Type 0 where
 pub line_reads : (us : List Token) (bytes : List ℕ) → Leads true us bytes → LineReads us bytes
 line_reads us bytes h =
     let last : Reads (1 + length bytes) [] [] (complete (1 + length bytes)) = over (1 + length bytes) [] (inl refl) in
-    let all = h.leads 1 [] [] (complete (1 + length bytes)) (λ ended. record { words = refl; dot = refl; figures = refl; equals = refl }) last in
+    let all = h.leads 1 [] [] (complete (1 + length bytes)) (λ ended. nothing_is_apart) last in
     record {
       placed = all.placed;
       tokens = all.tokens;

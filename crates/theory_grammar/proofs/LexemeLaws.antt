@@ -9,7 +9,8 @@ use Rattle.theory_meaning.specs.declared.words.Rel.TheVariants.{Eq, Ne, Lt, Le, 
 use Rattle.theory_meaning.specs.Identifier.{is_digit, is_letter, is_word_byte, is_word}
 use Rattle.theory_grammar.specs.declared.words.Mark.{Mark}
 use Rattle.theory_grammar.specs.declared.words.Mark.TheVariants.{Open, Close, OpenSquare, CloseSquare, Plus, Minus, Times, Over, Power, Colon}
-use Rattle.theory_grammar.specs.Scan.{mark_byte, relation_bytes, Lexeme, word, pair, digits, sign, comparison, spelling, IsLexeme}
+use Rattle.theory_grammar.specs.Signs.{mark_byte, relation_bytes}
+use Rattle.theory_grammar.specs.Lexeme.{Lexeme, word, pair, digits, sign, comparison, spelling, IsLexeme}
 
 -- the mark of a byte
 abbrev pub mark_among : ℕ → List Mark → Option Mark
@@ -50,7 +51,12 @@ mark_of-some b m found = mark_among-some b m all_marks found
 
 -- the relation of bytes
 abbrev pub relation_of : List ℕ → Rel
-relation_of bs = if bytes_eq bs (relation_bytes Ne) then Ne else (if bytes_eq bs (relation_bytes Lt) then Lt else (if bytes_eq bs (relation_bytes Le) then Le else (if bytes_eq bs (relation_bytes Gt) then Gt else (if bytes_eq bs (relation_bytes Ge) then Ge else Eq))))
+relation_of bs =
+    if bytes_eq bs (relation_bytes Ne) then Ne
+    else (if bytes_eq bs (relation_bytes Lt) then Lt
+    else (if bytes_eq bs (relation_bytes Le) then Le
+    else (if bytes_eq bs (relation_bytes Gt) then Gt
+    else (if bytes_eq bs (relation_bytes Ge) then Ge else Eq))))
 
 pub relation_of-relation_bytes : (r : Rel) → relation_of (relation_bytes r) ≡ r
 relation_of-relation_bytes Eq = refl

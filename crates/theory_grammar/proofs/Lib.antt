@@ -32,4 +32,6 @@ pub mod ClaimLevels
 pub mod PrintedClaims
 pub mod PrintedLines
 pub mod Outcomes
+pub mod PlainLaws
+pub mod PrintedTexts
 pub mod FitLaws

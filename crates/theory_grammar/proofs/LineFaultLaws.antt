@@ -122,7 +122,8 @@ complete_outcome Spells laws l [] c short r = inl (inl (record { short = short; 
 complete_outcome Spells laws l (p ∷ ps) c short r =
     let scanned : IsScanned l (p ∷ ps) = record { short = short; end = c; reads = r } in
     let fault = λ (f : SomeFault Spells (tokens_of (p ∷ ps))).
-    ⊎_elim (at_some_token Spells l (p ∷ ps) (complete c) f short r) (complete_fault Spells l (p ∷ ps) c f short r (λ e. cc)) (cases_lt f.place (length (p ∷ ps))) in
+    ⊎_elim (at_some_token Spells l (p ∷ ps) (complete c) f short r) (complete_fault Spells l (p ∷ ps) c f short r (λ e. cc))
+    (cases_lt f.place (length (p ∷ ps))) in
     ⊎_elim (λ k. inl (inr (k.0, record { tokens = p ∷ ps; scanned = scanned; spelled = k.1 }))) fault (laws.some (tokens_of (p ∷ ps)))
 
 broken_fault : {T : Type 0} (Spells : Grammar T) → (l : List ℕ) (ts : List Placed) (u : Unreadable) (c : ℕ) → length l ≤ 1024 →

@@ -4,7 +4,8 @@ use Rattle.std.specs.List.{list_all}
 use Rattle.std.proofs.lemmas.Bool.{false≢true, and_parts, and_from}
 use Rattle.theory_meaning.specs.Identifier.{is_digit, is_letter, is_word_byte, is_word}
 use Rattle.theory_grammar.specs.declared.words.Mark.{Mark}
-use Rattle.theory_grammar.specs.Scan.{mark_byte, Lexeme, word, pair, digits, sign, comparison, spelling, IsLexeme, IsLongest}
+use Rattle.theory_grammar.specs.Signs.{mark_byte}
+use Rattle.theory_grammar.specs.Lexeme.{Lexeme, word, pair, digits, sign, comparison, spelling, IsLexeme, IsLongest}
 use Rattle.theory_grammar.specs.Runs.{first_passes, begins_a_dotted_part}
 use Rattle.theory_grammar.proofs.RunLaws.{within_run, same_run}
 use Rattle.theory_grammar.proofs.LexemeLaws.{first_class, lexeme_class, lexeme_begins}
@@ -27,10 +28,12 @@ run_is_word [] rest first pass ends = absurd (false≢true (sym ends ∙ letter_
   letter_goes_on : (bs : List ℕ) → first_passes is_letter bs ≡ true → first_passes is_word_byte bs ≡ true
   letter_goes_on [] h = absurd (false≢true h)
   letter_goes_on (b ∷ bs) h = ap (λ (t : Bool). (t || is_digit b) || (b == 95)) h
-run_is_word (b ∷ bs) rest first pass ends = and_from (is_letter b) (list_all is_word_byte bs) first (and_parts (is_word_byte b) (list_all is_word_byte bs) pass).1
+run_is_word (b ∷ bs) rest first pass ends =
+    and_from (is_letter b) (list_all is_word_byte bs) first (and_parts (is_word_byte b) (list_all is_word_byte bs) pass).1
 
 -- lexemes of different kinds don't begin the same bytes
-pub apart : (x y : Lexeme) (rest behind : List ℕ) → IsLexeme x → IsLexeme y → spelling x ++ rest ≡ spelling y ++ behind → (lexeme_class x ≡ lexeme_class y → ⊥) → ⊥
+pub apart : (x y : Lexeme) (rest behind : List ℕ) → IsLexeme x → IsLexeme y → spelling x ++ rest ≡ spelling y ++ behind →
+    (lexeme_class x ≡ lexeme_class y → ⊥) → ⊥
 apart x y rest behind is_x is_y whole differ =
     differ (sym (lexeme_begins x rest is_x) ∙ ap first_class whole ∙ lexeme_begins y behind is_y)
 
@@ -65,10 +68,11 @@ pair_bound u v rest (word p) behind is_u is_v ends is whole =
     let short = within_run is_word_byte p behind u (46 ∷ (v ++ rest)) (word_bytes p is) refl (sym (opened u v rest) ∙ whole) in
     omega (arith, long_pair u v)
 pair_bound u v rest (pair p q) behind is_u is_v ends is whole =
-    let cut = same_run is_word_byte p (46 ∷ (q ++ behind)) u (46 ∷ (v ++ rest)) (word_bytes p is.0) refl (word_bytes u is_u) refl (sym (opened u v rest) ∙ whole ∙ opened p q behind) in
+    let same = sym (opened u v rest) ∙ whole ∙ opened p q behind in
+    let cut = same_run is_word_byte p (46 ∷ (q ++ behind)) u (46 ∷ (v ++ rest)) (word_bytes p is.0) refl (word_bytes u is_u) refl same in
     let tails : v ++ rest ≡ q ++ behind = let e = cut.1 in cc in
     let short = within_run is_word_byte q behind v rest (word_bytes q is.1) ends tails in
-    let same : length u ≡ length p = ap length cut.0 in
+    let long : length u ≡ length p = ap length cut.0 in
     omega (arith, long_pair u v, long_pair p q)
 pair_bound u v rest (digits ds) behind is_u is_v ends is whole = absurd (apart (pair u v) (digits ds) rest behind (is_u, is_v) is whole (λ h. cc))
 pair_bound u v rest (sign m) behind is_u is_v ends is whole = absurd (apart (pair u v) (sign m) rest behind (is_u, is_v) is whole (λ h. cc))

@@ -9,7 +9,8 @@ use Rattle.theory_meaning.specs.Point.{Name}
 use Rattle.theory_grammar.specs.declared.words.Keyword.{Keyword}
 use Rattle.theory_grammar.specs.declared.unreadable.Unreadable.TheVariants.{BadToken, LiteralWide}
 use Rattle.theory_grammar.specs.Token.{Token, name, dotted, number, stray}
-use Rattle.theory_grammar.specs.Scan.{Lexeme, word, pair, digits, sign, comparison, spelling, IsLexeme, token, fault, meaning, reserved_token, keyword_among, all_keywords, number_of, Placed, End, Reads, over, blank, read, unread, bad}
+use Rattle.theory_grammar.specs.Lexeme.{Lexeme, word, pair, digits, sign, comparison, spelling, IsLexeme, token, fault, meaning, reserved_token, keyword_among, all_keywords, number_of}
+use Rattle.theory_grammar.specs.Scan.{Placed, End, Reads, over, blank, read, unread, bad}
 use Rattle.theory_grammar.specs.TextFault.{tokens_of}
 use Rattle.theory_grammar.proofs.LongestLaws.{pair_longest}
 use Rattle.theory_grammar.proofs.LeadLaws.{Leads, word_leads, lexeme_leads}

@@ -26,7 +26,8 @@ fine_as Spells bs None h = inl h
 fine_as Spells bs (Some x) h = inr (x, h)
 
 -- one line is spelled in one way
-pub one_line : {T : Type 0} (Spells : Grammar T) → HasOneOutcome Spells → (bs : List ℕ) (x y : Option T) → SpellsLine Spells bs x → SpellsLine Spells bs y → x ≡ y
+pub one_line : {T : Type 0} (Spells : Grammar T) → HasOneOutcome Spells → (bs : List ℕ) (x y : Option T) → SpellsLine Spells bs x →
+    SpellsLine Spells bs y → x ≡ y
 one_line Spells laws bs x y h k = one_as Spells laws bs x y h.line k.line
 
 -- a line feed is among the bytes
@@ -44,7 +45,8 @@ line_not_fail Spells laws bs x f h (line_feed before behind text fine split none
     false≢true (sym (feed_found before behind) ∙ sym (ap has_no_feed split) ∙ h.one)
 
 -- the first line feed stands at one place
-one_feed : (bs before behind front back : List ℕ) → bs ≡ before ++ 10 ∷ behind → has_no_feed before ≡ true → bs ≡ front ++ 10 ∷ back → has_no_feed front ≡ true →
+one_feed : (bs before behind front back : List ℕ) → bs ≡ before ++ 10 ∷ behind → has_no_feed before ≡ true → bs ≡ front ++ 10 ∷ back →
+    has_no_feed front ≡ true →
     before ≡ front
 one_feed bs before behind front back split none cut no_more =
     (same_run (λ b. not (b == 10)) front (10 ∷ back) before (10 ∷ behind) no_more refl none refl (sym split ∙ cut)).0
@@ -62,7 +64,8 @@ encoding_fault Spells bs n g size valid (not_utf8 m also k) = ap (λ (i : ℕ). 
 encoding_fault Spells bs n g size valid (in_line k c text fails) = absurd (not_valid bs n text.utf8 valid)
 encoding_fault Spells bs n g size valid (line_feed before behind text fine split none) = absurd (not_valid bs n text.utf8 valid)
 
-inner_fault : {T : Type 0} (Spells : Grammar T) → HasOneOutcome Spells → (bs : List ℕ) (k : TextKind) (c : ℕ) (g : Fault) → IsText bs → LineFails Spells bs k c →
+inner_fault : {T : Type 0} (Spells : Grammar T) → HasOneOutcome Spells → (bs : List ℕ) (k : TextKind) (c : ℕ) (g : Fault) → IsText bs →
+    LineFails Spells bs k c →
     OneLineFails Spells bs g → in_line_1 k c ≡ g
 inner_fault Spells laws bs k c g text fails (too_large large) = let size = text.size in absurd (omega arith)
 inner_fault Spells laws bs k c g text fails (not_utf8 n size valid) = absurd (not_valid bs n text.utf8 valid)
@@ -100,7 +103,8 @@ behind_run Spells bs run [] text x h r =
 behind_run Spells bs run (b ∷ rest) text x h r =
     let split = λ (e : (b == 10) ≡ true). r.whole ∙ ap (λ (n : ℕ). run ++ n ∷ rest) (eqb-true b 10 e) in
     let passes = λ (e : (b == 10) ≡ false). absurd (false≢true (sym r.ends ∙ ap not e)) in
-    ⊎_elim (λ e. inr (in_line_1 kind.BadToken (length run + 1), line_feed run rest text (fine_as Spells bs x h) (split e) r.pass)) passes (cases_Bool (b == 10))
+    ⊎_elim (λ e. inr (in_line_1 kind.BadToken (length run + 1), line_feed run rest text (fine_as Spells bs x h) (split e) r.pass)) passes
+    (cases_Bool (b == 10))
 
 fine_line : {T : Type 0} (Spells : Grammar T) (bs : List ℕ) → IsText bs → Outcome Spells bs → LineComes Spells bs
 fine_line Spells bs text (inl (inl h)) = let r = run_of (λ b. not (b == 10)) bs in behind_run Spells bs r.run r.rest text None h r.is

@@ -12,7 +12,8 @@ use Rattle.theory_grammar.proofs.OpLaws.{op_laws}
 use Rattle.theory_grammar.proofs.LineOutcomes.{SomeFault, HasOneOutcome}
 
 some_fault : {T : Type 0} (Spells : Grammar T) (ts : List Token) →
-    ((x : T) × Spells every ts x) ⊎ ((kind : LineFaultKind) × (place : ℕ) × FirstFault Spells ts kind place) → ((x : T) × Spells every ts x) ⊎ SomeFault Spells ts
+    ((x : T) × Spells every ts x) ⊎ ((kind : LineFaultKind) × (place : ℕ) × FirstFault Spells ts kind place) →
+    ((x : T) × Spells every ts x) ⊎ SomeFault Spells ts
 some_fault Spells ts (inl h) = inl h
 some_fault Spells ts (inr h) = inr (record { kind = h.0; place = h.1; fault = h.2 })
 

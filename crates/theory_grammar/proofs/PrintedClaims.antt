@@ -7,11 +7,11 @@ use Rattle.theory_grammar.specs.declared.words.Keyword.TheVariants as word
 use Rattle.theory_grammar.specs.declared.words.Mark.TheVariants as sign
 use Rattle.theory_grammar.specs.Token.{Token, keyword, mark, relation}
 use Rattle.theory_grammar.specs.Spelled.{every, conjunction_of, disjunction_of, Rank, claim, side, premise, disjunct, conjunct, IsClaim, truth, falsehood, atom, negation, bracketed, conjunction, disjunction, one_premise, implies, one_side, iff, AreConjuncts, first_conjunct, next_conjunct, AreDisjuncts, first_disjunct, next_disjunct}
-use Rattle.theory_grammar.specs.Printed.{square_unless, is_neg, is_con, further, joined, claim_text, conjuncts, disjuncts}
+use Rattle.theory_grammar.specs.Printed.{square_unless, is_conjunct, is_disjunct, further, joined, claim_text, conjuncts, disjuncts}
 use Rattle.theory_grammar.proofs.LeadLaws.{Leads, joined_by, closed_by, between, nothing_more, blank_leads, keyword_leads, apart}
 use Rattle.theory_grammar.proofs.MeantLaws.{AreMeant, meant_front, meant_behind}
 use Rattle.theory_grammar.proofs.PrintedExprs.{whole_expr, sides_lead}
-use Rattle.theory_grammar.proofs.ClaimLevels.{own, lift, reaches_claim, Printable, Printed, printed, looser, lower_bare, neg_is_con, con_is_dis, dis_is_imp}
+use Rattle.theory_grammar.proofs.ClaimLevels.{own, lift, reaches_claim, Printable, Printed, printed, looser, lower_bare, conjunct_is_disjunct, disjunct_is_premise, premise_is_side}
 
 -- words as they are printed
 and_between : Leads false (keyword word.And ∷ []) (codes " and ")
@@ -57,17 +57,17 @@ record ConjunctsPrinted (d : ℕ) (c : Claim) (cs : List Claim) : Type 0 where
   leads : Leads true tokens (joined (codes "true") (codes " and ") (conjuncts (claims_from (c ∷ cs))))
 
 conjuncts_push : (cs : List Claim) (b : Claim) →
-    conjuncts (claims_from (cs ++ b ∷ [])) ≡ conjuncts (claims_from cs) ++ square_unless (is_neg b) (claim_text b) ∷ []
+    conjuncts (claims_from (cs ++ b ∷ [])) ≡ conjuncts (claims_from cs) ++ square_unless (is_conjunct b) (claim_text b) ∷ []
 conjuncts_push [] b = refl
-conjuncts_push (c ∷ cs) b = ap (λ (ps : List (List ℕ)). square_unless (is_neg c) (claim_text c) ∷ ps) (conjuncts_push cs b)
+conjuncts_push (c ∷ cs) b = ap (λ (ps : List (List ℕ)). square_unless (is_conjunct c) (claim_text c) ∷ ps) (conjuncts_push cs b)
 
 conjuncts_text : (c : Claim) (cs : List Claim) (b : Claim) →
-    (joined (codes "true") (codes " and ") (conjuncts (claims_from (c ∷ cs))) ++ codes " and ") ++ square_unless (is_neg b) (claim_text b)
+    (joined (codes "true") (codes " and ") (conjuncts (claims_from (c ∷ cs))) ++ codes " and ") ++ square_unless (is_conjunct b) (claim_text b)
     ≡ joined (codes "true") (codes " and ") (conjuncts (claims_from (c ∷ (cs ++ b ∷ []))))
 conjuncts_text c cs b =
-    let first = square_unless (is_neg c) (claim_text c) in
+    let first = square_unless (is_conjunct c) (claim_text c) in
     sym (ap (λ (ps : List (List ℕ)). joined (codes "true") (codes " and ") (first ∷ ps)) (conjuncts_push cs b)
-    ∙ joined_push (codes "true") (codes " and ") first (conjuncts (claims_from cs)) (square_unless (is_neg b) (claim_text b)))
+    ∙ joined_push (codes "true") (codes " and ") first (conjuncts (claims_from cs)) (square_unless (is_conjunct b) (claim_text b)))
 
 one_more_conjunct : (d : ℕ) (c : Claim) (cs : List Claim) (b : Claim) → ConjunctsPrinted d c cs → Printed conjunct d b → ConjunctsPrinted d c (cs ++ b ∷ [])
 one_more_conjunct d c cs b h p = record {
@@ -86,7 +86,7 @@ all_conjuncts d c cs (b ∷ bs) h all =
 conjunction_printable : (d : ℕ) (cs : List Claim) → AllPrintable conjunct d cs → Printable disjunct d (conjunction_of cs)
 conjunction_printable d [] all =
     record { bare = record { tokens = keyword word.True ∷ []; spells = truth; leads = keyword_leads word.True }; fits = inl refl }
-conjunction_printable d (c ∷ []) all = looser conjunct disjunct (neg_is_con c) all.0
+conjunction_printable d (c ∷ []) all = looser conjunct disjunct (conjunct_is_disjunct c) all.0
 conjunction_printable d (c ∷ b ∷ cs) all =
     let p = printed conjunct d c all.0 in
     let chain = all_conjuncts d c [] (b ∷ cs) (record { tokens = p.tokens; spells = first_conjunct p.spells; leads = nothing_more p.leads }) all.1 in
@@ -99,17 +99,17 @@ record DisjunctsPrinted (d : ℕ) (c : Claim) (cs : List Claim) : Type 0 where
   leads : Leads true tokens (joined (codes "false") (codes " or ") (disjuncts (claims_from (c ∷ cs))))
 
 disjuncts_push : (cs : List Claim) (b : Claim) →
-    disjuncts (claims_from (cs ++ b ∷ [])) ≡ disjuncts (claims_from cs) ++ square_unless (is_con b) (claim_text b) ∷ []
+    disjuncts (claims_from (cs ++ b ∷ [])) ≡ disjuncts (claims_from cs) ++ square_unless (is_disjunct b) (claim_text b) ∷ []
 disjuncts_push [] b = refl
-disjuncts_push (c ∷ cs) b = ap (λ (ps : List (List ℕ)). square_unless (is_con c) (claim_text c) ∷ ps) (disjuncts_push cs b)
+disjuncts_push (c ∷ cs) b = ap (λ (ps : List (List ℕ)). square_unless (is_disjunct c) (claim_text c) ∷ ps) (disjuncts_push cs b)
 
 disjuncts_text : (c : Claim) (cs : List Claim) (b : Claim) →
-    (joined (codes "false") (codes " or ") (disjuncts (claims_from (c ∷ cs))) ++ codes " or ") ++ square_unless (is_con b) (claim_text b)
+    (joined (codes "false") (codes " or ") (disjuncts (claims_from (c ∷ cs))) ++ codes " or ") ++ square_unless (is_disjunct b) (claim_text b)
     ≡ joined (codes "false") (codes " or ") (disjuncts (claims_from (c ∷ (cs ++ b ∷ []))))
 disjuncts_text c cs b =
-    let first = square_unless (is_con c) (claim_text c) in
+    let first = square_unless (is_disjunct c) (claim_text c) in
     sym (ap (λ (ps : List (List ℕ)). joined (codes "false") (codes " or ") (first ∷ ps)) (disjuncts_push cs b)
-    ∙ joined_push (codes "false") (codes " or ") first (disjuncts (claims_from cs)) (square_unless (is_con b) (claim_text b)))
+    ∙ joined_push (codes "false") (codes " or ") first (disjuncts (claims_from cs)) (square_unless (is_disjunct b) (claim_text b)))
 
 one_more_disjunct : (d : ℕ) (c : Claim) (cs : List Claim) (b : Claim) → DisjunctsPrinted d c cs → Printed disjunct d b → DisjunctsPrinted d c (cs ++ b ∷ [])
 one_more_disjunct d c cs b h p = record {
@@ -128,7 +128,7 @@ all_disjuncts d c cs (b ∷ bs) h all =
 disjunction_printable : (d : ℕ) (cs : List Claim) → AllPrintable disjunct d cs → Printable premise d (disjunction_of cs)
 disjunction_printable d [] all =
     record { bare = record { tokens = keyword word.False ∷ []; spells = falsehood; leads = keyword_leads word.False }; fits = inl refl }
-disjunction_printable d (c ∷ []) all = looser disjunct premise (con_is_dis c) all.0
+disjunction_printable d (c ∷ []) all = looser disjunct premise (disjunct_is_premise c) all.0
 disjunction_printable d (c ∷ b ∷ cs) all =
     let p = printed disjunct d c all.0 in
     let chain = all_disjuncts d c [] (b ∷ cs) (record { tokens = p.tokens; spells = first_disjunct p.spells; leads = nothing_more p.leads }) all.1 in
@@ -153,7 +153,7 @@ mutual
       record { bare = lower_bare d c inner; fits = inr (room, inner) }
   printable_claim d (conjunction {cs = cs} k) h = conjunction_printable d cs (printable_conjuncts d k h)
   printable_claim d (disjunction {cs = cs} k) h = disjunction_printable d cs (printable_disjuncts d k h)
-  printable_claim d (one_premise {c = c} k) h = looser premise side (dis_is_imp c) (printable_claim d k h)
+  printable_claim d (one_premise {c = c} k) h = looser premise side (premise_is_side c) (printable_claim d k h)
   printable_claim d (implies {ts = ts} {us = us} {b = b} {c = c} k l) h =
       let p = printed premise d b (printable_claim d k (meant_front ts (keyword word.Implies ∷ us) h)) in
       let q = printed side d c (printable_claim d l (meant_behind ts (keyword word.Implies ∷ us) h).1) in

@@ -11,7 +11,7 @@ use Rattle.theory_grammar.specs.declared.words.Mark.TheVariants as sign
 use Rattle.theory_grammar.specs.Token.{Token, name, dotted, number, mark, relation}
 use Rattle.theory_grammar.specs.Spelled.{every, is_below, common_divisor, lowest, Level, sum, term, factor, power, primary, IsExpr, whole_number, identifier, dotted_name, bracket, one_primary, raised, one_power, fraction, negated, one_factor, times, one_term, plus, minus}
 use Rattle.theory_meaning.specs.declared.words.Rel.{Rel}
-use Rattle.theory_grammar.specs.Scan.{relation_bytes}
+use Rattle.theory_grammar.specs.Signs.{relation_bytes}
 use Rattle.theory_grammar.specs.Printed.{sides_text, is_term, is_factor, is_primary, expr_text}
 use Rattle.theory_grammar.proofs.LowestLaws.{is_gcd, lowest_terms}
 use Rattle.theory_grammar.proofs.LeadLaws.{Leads, joined_by, closed_by, between, nothing_more, blank_leads, mark_leads, relation_leads, number_leads, apart}

@@ -9,12 +9,18 @@ use Rattle.theory_grammar.specs.declared.words.Keyword.{Keyword}
 use Rattle.theory_grammar.specs.declared.words.Keyword.TheVariants as word
 use Rattle.theory_grammar.specs.declared.words.Mark.TheVariants as sign
 use Rattle.theory_grammar.specs.Token.{Token, keyword, name, mark, relation}
-use Rattle.theory_grammar.specs.Scan.{keyword_bytes, complete}
+use Rattle.theory_grammar.specs.Signs.{keyword_bytes}
+use Rattle.theory_grammar.specs.Scan.{complete}
 use Rattle.theory_grammar.specs.Spelled.{every, IsLine, model_line, var_line, param_line, function_line, equation_line, assume_line, claim_line, shift_line, IsOp, put, drop}
 use Rattle.theory_grammar.specs.TextFault.{SpellsOne}
 use Rattle.theory_grammar.specs.Printed.{further, line_text, op_text}
 use Rattle.theory_grammar.proofs.LeadLaws.{IsApart, Leads, composed, joined_by, closed_by, between, nothing_more, nothing_leads, blank_leads, mark_leads, keyword_leads, line_reads, apart}
 use Rattle.theory_grammar.proofs.MeantLaws.{name_leads, IsMeant, AreMeant, meant_front, meant_behind, tokens_are_meant}
+use Rattle.std.proofs.Common.{◌≡◌, Some, arith}
+use Rattle.std.specs.List.{list_all}
+use Rattle.theory_grammar.specs.LineFault.{Grammar}
+use Rattle.theory_grammar.specs.OneLine.{SpellsLine}
+use Rattle.theory_grammar.proofs.PlainLaws.{is_plain, plain_no_feed, plain_utf8}
 use Rattle.theory_grammar.proofs.PrintedExprs.{whole_expr, sides_lead}
 use Rattle.theory_grammar.proofs.PrintedClaims.{whole_claim}
 
@@ -110,22 +116,31 @@ op_printed (drop {x = x}) h = record {
   leads = joined_by (closed_by (name_leads (codes "drop") h.0) blank_leads (λ rest. apart refl)) (name_leads x h.1.0);
 }
 
--- what tokens of printed bytes spell, the bytes spell
-pub printed_line_spells : (bytes : List ℕ) (l : Line) → SpellsOne IsLine bytes l → length (line_text l) ≤ 1024 → SpellsOne IsLine (line_text l) l
+-- plain bytes of a line that spell something are one line of UTF-8
+spells_line : {T : Type 0} (Spells : Grammar T) (bytes : List ℕ) (tree : T) → list_all is_plain bytes ≡ true → SpellsOne Spells bytes tree →
+    SpellsLine Spells bytes (Some tree)
+spells_line Spells bytes tree plain h = record {
+  text = record { size = omega (arith, h.scanned.short); utf8 = plain_utf8 bytes plain };
+  one = plain_no_feed bytes plain;
+  line = h;
+}
+
+-- the printed form spells what the bytes spell
+pub printed_line_spells : (bytes : List ℕ) (l : Line) → SpellsOne IsLine bytes l → length (line_text l) ≤ 1024 → SpellsLine IsLine (line_text l) (Some l)
 printed_line_spells bytes l h short =
     let p = line_printed h.spelled (tokens_are_meant 1 bytes h.tokens (complete h.scanned.end) h.scanned.reads) in
     let r = line_reads p.tokens (line_text l) p.leads in
-    record {
+    spells_line IsLine (line_text l) l p.leads.plain record {
       tokens = r.placed;
       scanned = record { short = short; end = 1 + length (line_text l); reads = r.reads };
       spelled = subst (λ (ts : List Token). IsLine every ts l) (sym r.tokens) p.spells;
     }
 
-pub printed_op_spells : (bytes : List ℕ) (op : text.Op) → SpellsOne IsOp bytes op → length (op_text op) ≤ 1024 → SpellsOne IsOp (op_text op) op
+pub printed_op_spells : (bytes : List ℕ) (op : text.Op) → SpellsOne IsOp bytes op → length (op_text op) ≤ 1024 → SpellsLine IsOp (op_text op) (Some op)
 printed_op_spells bytes op h short =
     let p = op_printed h.spelled (tokens_are_meant 1 bytes h.tokens (complete h.scanned.end) h.scanned.reads) in
     let r = line_reads p.tokens (op_text op) p.leads in
-    record {
+    spells_line IsOp (op_text op) op p.leads.plain record {
       tokens = r.placed;
       scanned = record { short = short; end = 1 + length (op_text op); reads = r.reads };
       spelled = subst (λ (ts : List Token). IsOp every ts op) (sym r.tokens) p.spells;

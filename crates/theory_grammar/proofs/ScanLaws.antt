@@ -8,7 +8,9 @@ use Rattle.theory_grammar.specs.declared.words.Mark.{Mark}
 use Rattle.theory_grammar.specs.declared.unreadable.Unreadable.{Unreadable}
 use Rattle.theory_grammar.specs.declared.unreadable.Unreadable.TheVariants.{BadToken}
 use Rattle.theory_grammar.specs.Token.{Token}
-use Rattle.theory_grammar.specs.Scan.{is_blank, mark_byte, relation_bytes, Lexeme, word, pair, digits, sign, comparison, spelling, IsLexeme, IsLongest, token, fault, meaning, Placed, End, complete, broken, IsOver, IsBad, Reads, over, blank, read, unread, bad}
+use Rattle.theory_grammar.specs.Signs.{mark_byte, relation_bytes}
+use Rattle.theory_grammar.specs.Lexeme.{Lexeme, word, pair, digits, sign, comparison, spelling, IsLexeme, IsLongest, token, fault, meaning}
+use Rattle.theory_grammar.specs.Scan.{is_blank, Placed, End, complete, broken, IsOver, IsBad, Reads, over, blank, read, unread, bad}
 use Rattle.theory_grammar.proofs.RunLaws.{same_cut, same_run}
 use Rattle.theory_grammar.proofs.LexemeLaws.{other, first_class, class_of, lexeme_class, begins_so, no_lexeme_is_other, mark_of, mark_of-mark_byte, relation_of, relation_of-relation_bytes}
 use Rattle.theory_grammar.proofs.LongestLaws.{word_bytes}

@@ -77,7 +77,8 @@ one_list_fault Spells laws n ls f g (later _ l rest _ fine r) h =
 abbrev pub Comes : {T A : Type 0} → Grammar T → (ℕ → T → A) → ℕ → List (List ℕ) → Type 0
 Comes {A = A} Spells keep n ls = ((xs : List A) × SpellFrom Spells keep n ls xs) ⊎ ((f : Fault) × FailFrom Spells n ls f)
 
-first_line : {T A : Type 0} (Spells : Grammar T) (keep : ℕ → T → A) (n : ℕ) (l : List ℕ) (ls : List (List ℕ)) → Outcome Spells l → Comes Spells keep (n + 1) ls →
+first_line : {T A : Type 0} (Spells : Grammar T) (keep : ℕ → T → A) (n : ℕ) (l : List ℕ) (ls : List (List ℕ)) → Outcome Spells l →
+    Comes Spells keep (n + 1) ls →
     Comes Spells keep n (l ∷ ls)
 first_line Spells keep n l ls (inl (inl h)) (inl k) = inl (k.0, passed n l ls k.0 h k.1)
 first_line Spells keep n l ls (inl (inr h)) (inl k) = inl (keep n h.0 ∷ k.0, spelled n l ls h.0 k.0 h.1 k.1)

@@ -1,4 +1,6 @@
 pub mod Token
+pub mod Signs
+pub mod Lexeme
 pub mod Scan
 pub mod Runs
 pub mod Spelled

@@ -7,7 +7,7 @@ use Rattle.theory_meaning.specs.Fraction.{Fraction}
 use Rattle.theory_meaning.specs.Point.{Name}
 use Rattle.theory_meaning.specs.Tree.{Expr, number, symbol, sum, difference, opposite, product, power, Claim, always, never, atom, negation, conjunction, disjunction, implication, equivalence, Claims, none, more, Line, model, var, param, function, equation, assume, claim}
 use Rattle.theory_meaning.specs.Text.{Op, put_line, drop_key}
-use Rattle.theory_grammar.specs.Scan.{relation_bytes}
+use Rattle.theory_grammar.specs.Signs.{relation_bytes}
 
 -- the denominator behind a slash, or nothing for a whole number
 abbrev pub below_text : ℕ → List ℕ
@@ -23,10 +23,11 @@ abbrev pub unless : Bool → List ℕ → List ℕ
 unless true sign = []
 unless false sign = sign
 
--- round and square brackets, left out where the test holds
+-- round brackets, left out where the test holds
 abbrev pub round_unless : Bool → List ℕ → List ℕ
 round_unless bare bs = unless bare (codes "(") ++ bs ++ unless bare (codes ")")
 
+-- square brackets, left out where the test holds
 abbrev pub square_unless : Bool → List ℕ → List ℕ
 square_unless bare bs = unless bare (codes "[") ++ bs ++ unless bare (codes "]")
 
@@ -47,6 +48,7 @@ is_primary (number q) = (q.less == 0) && not (int_lt q.num (pos 0))
 is_primary (symbol name) = true
 is_primary _ = false
 
+-- an expression, with brackets only where the grammar needs them for the same tree
 abbrev pub expr_text : Expr → List ℕ
 expr_text (number q) = fraction_text q
 expr_text (symbol name) = name
@@ -61,27 +63,27 @@ abbrev pub sides_text : Expr → Rel → Expr → List ℕ
 sides_text u rel v = expr_text u ++ codes " " ++ relation_bytes rel ++ codes " " ++ expr_text v
 
 -- a claim that stands as a member of a conjunction, or behind `not`
-abbrev pub is_neg : Claim → Bool
-is_neg (conjunction cs) = false
-is_neg (disjunction cs) = false
-is_neg (implication a b) = false
-is_neg (equivalence a b) = false
-is_neg _ = true
+abbrev pub is_conjunct : Claim → Bool
+is_conjunct (conjunction cs) = false
+is_conjunct (disjunction cs) = false
+is_conjunct (implication a b) = false
+is_conjunct (equivalence a b) = false
+is_conjunct _ = true
 
 -- one that stands as a member of a disjunction
-abbrev pub is_con : Claim → Bool
-is_con (conjunction cs) = true
-is_con c = is_neg c
+abbrev pub is_disjunct : Claim → Bool
+is_disjunct (conjunction cs) = true
+is_disjunct c = is_conjunct c
 
 -- one that stands before `implies`
-abbrev pub is_dis : Claim → Bool
-is_dis (disjunction cs) = true
-is_dis c = is_con c
+abbrev pub is_premise : Claim → Bool
+is_premise (disjunction cs) = true
+is_premise c = is_disjunct c
 
 -- one that stands behind `implies`, or beside `iff`
-abbrev pub is_imp : Claim → Bool
-is_imp (equivalence a b) = false
-is_imp _ = true
+abbrev pub is_side : Claim → Bool
+is_side (equivalence a b) = false
+is_side _ = true
 
 -- each part behind the word
 abbrev pub further : List ℕ → List (List ℕ) → List ℕ
@@ -94,31 +96,33 @@ joined empty word [] = empty
 joined empty word (part ∷ parts) = part ++ further word parts
 
 abbrev mutual
+  -- a claim, with brackets only where the grammar needs them for the same tree
   pub claim_text : Claim → List ℕ
   claim_text always = codes "true"
   claim_text never = codes "false"
   claim_text (atom u rel v) = sides_text u rel v
-  claim_text (negation c) = codes "not " ++ square_unless (is_neg c) (claim_text c)
+  claim_text (negation c) = codes "not " ++ square_unless (is_conjunct c) (claim_text c)
   claim_text (conjunction cs) = joined (codes "true") (codes " and ") (conjuncts cs)
   claim_text (disjunction cs) = joined (codes "false") (codes " or ") (disjuncts cs)
-  claim_text (implication a b) = square_unless (is_dis a) (claim_text a) ++ codes " implies " ++ square_unless (is_imp b) (claim_text b)
-  claim_text (equivalence a b) = square_unless (is_imp a) (claim_text a) ++ codes " iff " ++ square_unless (is_imp b) (claim_text b)
+  claim_text (implication a b) = square_unless (is_premise a) (claim_text a) ++ codes " implies " ++ square_unless (is_side b) (claim_text b)
+  claim_text (equivalence a b) = square_unless (is_side a) (claim_text a) ++ codes " iff " ++ square_unless (is_side b) (claim_text b)
 
   -- the members of a conjunction
   pub conjuncts : Claims → List (List ℕ)
   conjuncts none = []
-  conjuncts (more c cs) = square_unless (is_neg c) (claim_text c) ∷ conjuncts cs
+  conjuncts (more c cs) = square_unless (is_conjunct c) (claim_text c) ∷ conjuncts cs
 
   -- the members of a disjunction
   pub disjuncts : Claims → List (List ℕ)
   disjuncts none = []
-  disjuncts (more c cs) = square_unless (is_con c) (claim_text c) ∷ disjuncts cs
+  disjuncts (more c cs) = square_unless (is_disjunct c) (claim_text c) ∷ disjuncts cs
 
 -- the parameter that a claim shifts
 abbrev pub shift_text : Option Name → List ℕ
 shift_text None = []
 shift_text (Some p) = codes " by " ++ p
 
+-- a line, without a line feed
 abbrev pub line_text : Line → List ℕ
 line_text (model name) = codes "model " ++ name
 line_text (var x) = codes "var " ++ x
@@ -133,6 +137,7 @@ abbrev pub text_of : List Line → List ℕ
 text_of [] = []
 text_of (line ∷ lines) = line_text line ++ 10 ∷ text_of lines
 
+-- an edit, without a line feed
 abbrev pub op_text : Op → List ℕ
 op_text (put_line line) = codes "put " ++ line_text line
 op_text (drop_key key) = codes "drop " ++ key

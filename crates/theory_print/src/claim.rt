@@ -1,10 +1,10 @@
 ghost use Rattle.std.specs.Prelude.{◌≡◌, ◌++◌, IfOk, OnOk, codes};
-ghost use Rattle.theory_grammar.specs.Printed.{is_neg, is_con, is_dis, is_imp, claim_text, conjuncts, disjuncts, joined};
+ghost use Rattle.theory_grammar.specs.Printed.{is_conjunct, is_disjunct, is_premise, is_side, claim_text, conjuncts, disjuncts, joined};
 ghost use Rattle.theory_meaning.specs.Tree.{claims_from};
 ghost use Rattle.theory_syntax.specs.Plain.{claim_of, claims_of};
 
 use crate::expr::add_sides;
-use crate::parts::add_unless;
+use crate::parts::{add_opening, add_unless};
 use std::alloc::Global;
 use theory_points::{Bytes, NoMemory};
 use theory_syntax::Claim;
@@ -28,33 +28,30 @@ pub fn add_claim(alloc: Global, text: &mut Bytes, claim: &Claim) -> Result<(), N
         Claim::False => text.extend(b"false"),
         Claim::Atom(left, rel, right) => add_sides(alloc, text, left, *rel, right),
         Claim::Not(c) => {
-            let bare = is_neg(c);
-            text.extend(b"not ")?;
-            add_unless(text, bare, b"[")?;
+            let bare = is_conjunct(c);
+            add_opening(text, b"not ", bare, b"[")?;
             add_claim(alloc, text, c)?;
             add_unless(text, bare, b"]")
         }
         Claim::And(members) => add_conjunction(alloc, text, members),
         Claim::Or(members) => add_disjunction(alloc, text, members),
         Claim::Implies(a, b) => {
-            let left_bare = is_dis(a);
+            let left_bare = is_premise(a);
             add_unless(text, left_bare, b"[")?;
             add_claim(alloc, text, a)?;
             add_unless(text, left_bare, b"]")?;
-            let right_bare = is_imp(b);
-            text.extend(b" implies ")?;
-            add_unless(text, right_bare, b"[")?;
+            let right_bare = is_side(b);
+            add_opening(text, b" implies ", right_bare, b"[")?;
             add_claim(alloc, text, b)?;
             add_unless(text, right_bare, b"]")
         }
         Claim::Iff(a, b) => {
-            let left_bare = is_imp(a);
+            let left_bare = is_side(a);
             add_unless(text, left_bare, b"[")?;
             add_claim(alloc, text, a)?;
             add_unless(text, left_bare, b"]")?;
-            let right_bare = is_imp(b);
-            text.extend(b" iff ")?;
-            add_unless(text, right_bare, b"[")?;
+            let right_bare = is_side(b);
+            add_opening(text, b" iff ", right_bare, b"[")?;
             add_claim(alloc, text, b)?;
             add_unless(text, right_bare, b"]")
         }
@@ -69,14 +66,13 @@ fn add_conjunction(alloc: Global, text: &mut Bytes, members: &[Claim]) -> Result
     match members {
         [] => text.extend(b"true"),
         [first, others @ ..] => {
-            let first_bare = is_neg(first);
+            let first_bare = is_conjunct(first);
             add_unless(text, first_bare, b"[")?;
             add_claim(alloc, text, first)?;
             add_unless(text, first_bare, b"]")?;
             for other in others {
-                let bare = is_neg(other);
-                text.extend(b" and ")?;
-                add_unless(text, bare, b"[")?;
+                let bare = is_conjunct(other);
+                add_opening(text, b" and ", bare, b"[")?;
                 add_claim(alloc, text, other)?;
                 add_unless(text, bare, b"]")?;
             }
@@ -93,14 +89,13 @@ fn add_disjunction(alloc: Global, text: &mut Bytes, members: &[Claim]) -> Result
     match members {
         [] => text.extend(b"false"),
         [first, others @ ..] => {
-            let first_bare = is_con(first);
+            let first_bare = is_disjunct(first);
             add_unless(text, first_bare, b"[")?;
             add_claim(alloc, text, first)?;
             add_unless(text, first_bare, b"]")?;
             for other in others {
-                let bare = is_con(other);
-                text.extend(b" or ")?;
-                add_unless(text, bare, b"[")?;
+                let bare = is_disjunct(other);
+                add_opening(text, b" or ", bare, b"[")?;
                 add_claim(alloc, text, other)?;
                 add_unless(text, bare, b"]")?;
             }
@@ -109,8 +104,8 @@ fn add_disjunction(alloc: Global, text: &mut Bytes, members: &[Claim]) -> Result
     }
 }
 
-fn is_neg(claim: &Claim) -> bool
-    ensures { result ≡ is_neg (claim_of claim.now) }
+fn is_conjunct(claim: &Claim) -> bool
+    ensures { result ≡ is_conjunct (claim_of claim.now) }
 {
     !matches!(
         claim,
@@ -118,20 +113,20 @@ fn is_neg(claim: &Claim) -> bool
     )
 }
 
-fn is_con(claim: &Claim) -> bool
-    ensures { result ≡ is_con (claim_of claim.now) }
+fn is_disjunct(claim: &Claim) -> bool
+    ensures { result ≡ is_disjunct (claim_of claim.now) }
 {
     !matches!(claim, Claim::Or(_) | Claim::Implies(..) | Claim::Iff(..))
 }
 
-fn is_dis(claim: &Claim) -> bool
-    ensures { result ≡ is_dis (claim_of claim.now) }
+fn is_premise(claim: &Claim) -> bool
+    ensures { result ≡ is_premise (claim_of claim.now) }
 {
     !matches!(claim, Claim::Implies(..) | Claim::Iff(..))
 }
 
-fn is_imp(claim: &Claim) -> bool
-    ensures { result ≡ is_imp (claim_of claim.now) }
+fn is_side(claim: &Claim) -> bool
+    ensures { result ≡ is_side (claim_of claim.now) }
 {
     !matches!(claim, Claim::Iff(..))
 }

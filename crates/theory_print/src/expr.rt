@@ -2,7 +2,7 @@ ghost use Rattle.std.specs.Prelude.{◌≡◌, ◌++◌, IfOk, OnOk};
 ghost use Rattle.theory_grammar.specs.Printed.{is_term, is_factor, is_primary, expr_text, sides_text};
 ghost use Rattle.theory_syntax.specs.Plain.{expr_of};
 
-use crate::parts::{add_fraction, add_number, add_relation, add_unless};
+use crate::parts::{add_fraction, add_number, add_opening, add_relation, add_unless};
 use std::alloc::Global;
 use theory_points::{Bytes, NoMemory};
 use theory_syntax::{Expr, Rel};
@@ -41,23 +41,20 @@ fn add_expr(alloc: Global, text: &mut Bytes, expr: &Expr) -> Result<(), NoMemory
         Expr::Sum(u, v) => {
             let bare = is_term(v);
             add_expr(alloc, text, u)?;
-            text.extend(b" + ")?;
-            add_unless(text, bare, b"(")?;
+            add_opening(text, b" + ", bare, b"(")?;
             add_expr(alloc, text, v)?;
             add_unless(text, bare, b")")
         }
         Expr::Diff(u, v) => {
             let bare = is_term(v);
             add_expr(alloc, text, u)?;
-            text.extend(b" - ")?;
-            add_unless(text, bare, b"(")?;
+            add_opening(text, b" - ", bare, b"(")?;
             add_expr(alloc, text, v)?;
             add_unless(text, bare, b")")
         }
         Expr::Neg(u) => {
             let bare = is_factor(u);
-            text.extend(b"-")?;
-            add_unless(text, bare, b"(")?;
+            add_opening(text, b"-", bare, b"(")?;
             add_expr(alloc, text, u)?;
             add_unless(text, bare, b")")
         }
@@ -67,8 +64,7 @@ fn add_expr(alloc: Global, text: &mut Bytes, expr: &Expr) -> Result<(), NoMemory
             add_expr(alloc, text, u)?;
             add_unless(text, left_bare, b")")?;
             let right_bare = is_factor(v);
-            text.extend(b"*")?;
-            add_unless(text, right_bare, b"(")?;
+            add_opening(text, b"*", right_bare, b"(")?;
             add_expr(alloc, text, v)?;
             add_unless(text, right_bare, b")")
         }

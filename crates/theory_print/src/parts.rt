@@ -1,7 +1,7 @@
 ghost use Rattle.std.specs.Prelude.{◌≡◌, ◌++◌, OnOk, codes, decimal};
 ghost use Rattle.std.specs.Fmt.{signed_decimal};
 ghost use Rattle.theory_grammar.specs.Printed.{fraction_text, unless};
-ghost use Rattle.theory_grammar.specs.Scan.{relation_bytes};
+ghost use Rattle.theory_grammar.specs.Signs.{relation_bytes};
 
 use std::alloc::Global;
 use theory_points::{Bytes, Frac, NoMemory};
@@ -12,6 +12,19 @@ pub fn add_unless(text: &mut Bytes, bare: bool, sign: &[u8]) -> Result<(), NoMem
     ensures { OnOk result (text.new ≡ text.old ++ unless bare sign.now) }
 {
     if bare { Ok(()) } else { text.extend(sign) }
+}
+
+/// Appends a sign, and behind it the bracket unless the test holds.
+pub fn add_opening(
+    text: &mut Bytes,
+    sign: &[u8],
+    bare: bool,
+    bracket: &[u8],
+) -> Result<(), NoMemory>
+    ensures { OnOk result (text.new ≡ text.old ++ sign.now ++ unless bare bracket.now) }
+{
+    text.extend(sign)?;
+    add_unless(text, bare, bracket)
 }
 
 /// Appends a fraction.

@@ -66,7 +66,8 @@ one_more_leads ps p after behind rest line first takes at blanks =
     }
 
 -- the whole line, where nothing more is read
-pub all_led : (ps : List Placed) (e : plain.End) (rest line : List ℕ) → Leads ps rest line → Reads (length line - length rest + 1) rest [] e → ReadsLine line ps e
+pub all_led : (ps : List Placed) (e : plain.End) (rest line : List ℕ) → Leads ps rest line → Reads (length line - length rest + 1) rest [] e →
+    ReadsLine line ps e
 all_led ps e rest line first last = subst (λ (qs : List Placed). Reads 1 line qs e) (append-nil ps) (first.reads [] e last)
 
 -- one more token with its column

@@ -7,7 +7,9 @@ use Rattle.theory_meaning.specs.Identifier.{is_letter, is_digit, is_word_byte, i
 use Rattle.theory_grammar.specs.declared.words.Mark.{Mark}
 use Rattle.theory_grammar.specs.declared.unreadable.Unreadable.TheVariants.{BadToken}
 use Rattle.theory_grammar.specs.Token as plain
-use Rattle.theory_grammar.specs.Scan.{mark_byte, relation_bytes, Lexeme, word, pair, digits, sign, comparison, spelling, IsLongest, HasNoLexeme, Meaning, token, meaning, word_meaning, pair_meaning, digits_meaning, broken, Reads, read, unread, bad}
+use Rattle.theory_grammar.specs.Signs.{mark_byte, relation_bytes}
+use Rattle.theory_grammar.specs.Lexeme.{Lexeme, word, pair, digits, sign, comparison, spelling, IsLongest, HasNoLexeme, Meaning, token, meaning, word_meaning, pair_meaning, digits_meaning}
+use Rattle.theory_grammar.specs.Scan.{broken, Reads, read, unread, bad}
 use Rattle.theory_grammar.specs.Runs.{first_passes, begins_a_dotted_part, IsRun}
 use Rattle.theory_grammar.proofs.LexemeLaws.{mark_of, mark_of-some, is_comparison_byte}
 use Rattle.theory_grammar.proofs.LongestLaws.{run_is_word, word_longest, pair_longest, digits_longest, mark_longest}
@@ -29,7 +31,8 @@ takes_lexeme x rest bytes t h m =
     }
 
 -- what was found of the longest lexeme stands next
-pub lexeme_next : (x : Lexeme) (rest bytes : List ℕ) (m : Meaning) (next : Next) → IsLongest x rest bytes → meaning x ≡ m → IsFoundAs m rest next → IsNext bytes next
+pub lexeme_next : (x : Lexeme) (rest bytes : List ℕ) (m : Meaning) (next : Next) → IsLongest x rest bytes → meaning x ≡ m → IsFoundAs m rest next →
+    IsNext bytes next
 lexeme_next x rest bytes m (Found t behind) h is found =
     subst (λ (bs : List ℕ). Takes (plain_token t) bs bytes) (sym found.1) (takes_lexeme x rest bytes (plain_token t) h (is ∙ found.0))
 lexeme_next x rest bytes m Over h is found = absurd found

@@ -1,6 +1,6 @@
 -- Numbers that more digits make no smaller.
 use Rattle.std.proofs.Common.{◌≡◌, ℕ, ◌+◌, ◌-◌, ◌*◌, ◌≤◌, List, [], ◌∷◌, ◌++◌, take, drop, fold, refl, sym, ap, ◌∙◌, arith, take-append-drop}
-use Rattle.theory_grammar.specs.Scan.{number_of}
+use Rattle.theory_grammar.specs.Lexeme.{number_of}
 
 -- one more digit
 abbrev pub next_digit : ℕ → ℕ → ℕ

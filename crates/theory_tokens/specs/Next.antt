@@ -2,7 +2,9 @@
 use Rattle.std.specs.Prelude.{◌≡◌, ◌≢◌, ℕ, ◌+◌, ◌-◌, ◌<◌, Bool, true, false, List, [], ◌∷◌, length, Result, Ok, Err}
 use Rattle.theory_meaning.specs.Identifier.{is_letter, is_word_byte, is_digit}
 use Rattle.theory_grammar.specs.declared.unreadable.Unreadable.{Unreadable}
-use Rattle.theory_grammar.specs.Scan.{is_blank, mark_byte, Meaning, token, fault, Placed, End, complete, broken, Reads}
+use Rattle.theory_grammar.specs.Signs.{mark_byte}
+use Rattle.theory_grammar.specs.Lexeme.{Meaning, token, fault}
+use Rattle.theory_grammar.specs.Scan.{is_blank, Placed, End, complete, broken, Reads}
 use Rattle.theory_grammar.specs.declared.words.Mark.{Mark}
 use Rattle.theory_grammar.specs.Runs.{first_passes}
 use Rattle.theory_grammar.specs.Token as plain

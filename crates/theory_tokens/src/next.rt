@@ -1,7 +1,8 @@
 ghost use Rattle.std.specs.Prelude.{◌≡◌, ◌∷◌, ◌-◌, ◌≤◌, ◌==◌, false, true, IfSome, None, MatchOption, length, take};
 ghost use Rattle.theory_meaning.specs.Identifier.{is_letter, is_digit};
 ghost use Rattle.theory_grammar.specs.Runs.{first_passes, begins_a_dotted_part};
-ghost use Rattle.theory_grammar.specs.Scan.{is_blank, mark_byte};
+ghost use Rattle.theory_grammar.specs.Signs.{mark_byte};
+ghost use Rattle.theory_grammar.specs.Scan.{is_blank};
 ghost use Rattle.theory_tokens.specs.Next.{meaning_of, IsNext, IsFoundAs, IsPart, BeginsNoWord, IsNoMark};
 
 use crate::number::number_token;

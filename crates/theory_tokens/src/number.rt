@@ -1,6 +1,6 @@
 ghost use Rattle.std.specs.Prelude.{◌≡◌, ◌-◌, ◌≤◌, ◌<◌, MatchOption};
 ghost use Rattle.theory_meaning.specs.Limits.{bound};
-ghost use Rattle.theory_grammar.specs.Scan.{number_of, digits_meaning};
+ghost use Rattle.theory_grammar.specs.Lexeme.{number_of, digits_meaning};
 ghost use Rattle.theory_tokens.specs.Next.{meaning_of};
 
 use crate::token::Token;

@@ -1,7 +1,8 @@
 ghost use Rattle.std.specs.Prelude.{◌≡◌, ◌∷◌, ◌++◌, codes};
 ghost use Rattle.std.specs.Str.{bytes_eq};
 ghost use Rattle.theory_meaning.specs.Identifier.{is_reserved};
-ghost use Rattle.theory_grammar.specs.Scan.{keyword_bytes, keyword_among, all_keywords, word_meaning, pair_meaning};
+ghost use Rattle.theory_grammar.specs.Signs.{keyword_bytes};
+ghost use Rattle.theory_grammar.specs.Lexeme.{keyword_among, all_keywords, word_meaning, pair_meaning};
 ghost use Rattle.theory_tokens.specs.Next.{meaning_of};
 
 use crate::token::Token;

@@ -5,7 +5,8 @@ use Rattle.theory_tokens.proofs.line.scan_line.Goals as goal
 
 pub loop-token-preserved : goal.loop-token-preserved
 loop-token-preserved c =
-    one_more_token _ _ _ _ c.in-Found.token _ _ _ _ c.loop-token.invariant c.in_ok-push-in-Found.ensures.items c.in_ok-push-in-Found-2.ensures.items c.in-Found.ensures c.behind_blanks-rest-in-Found.ensures
+    one_more_token _ _ _ _ c.in-Found.token _ _ _ _ c.loop-token.invariant c.in_ok-push-in-Found.ensures.items
+    c.in_ok-push-in-Found-2.ensures.items c.in-Found.ensures c.behind_blanks-rest-in-Found.ensures
 
 pub returns-in-Over : goal.returns-in-Over
 returns-in-Over c =

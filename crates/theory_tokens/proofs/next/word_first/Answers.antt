@@ -12,4 +12,5 @@ returns-in-None c = word_next _ _ _ _ c.found.result c.requires c.split_run.ensu
 
 pub returns-in-Some : goal.returns-in-Some
 returns-in-Some c =
-    pair_next _ _ _ _ _ _ _ c.found-in-Some.result c.requires c.split_run.ensures c.in-Some.ensures c.split_run-in-Some.ensures c.pair_token.ensures c.found-in-Some.ensures
+    pair_next _ _ _ _ _ _ _ c.found-in-Some.result c.requires c.split_run.ensures c.in-Some.ensures c.split_run-in-Some.ensures
+    c.pair_token.ensures c.found-in-Some.ensures

@@ -1,5 +1,5 @@
 use Rattle.std.proofs.Common.{◌≡◌, drop}
-use Rattle.theory_grammar.specs.Scan.{keyword_among}
+use Rattle.theory_grammar.specs.Lexeme.{keyword_among}
 use Rattle.theory_tokens.proofs.word.find.Given as goal
 
 abbrev pub invariant-loop-keyword : goal.invariant-loop-keyword
