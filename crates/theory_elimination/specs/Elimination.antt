@@ -1,0 +1,27 @@
+-- What the branches of a formula in a symbol say of its values.
+use Rattle.std.specs.Prelude.{ℕ, zero, suc, List, ◌∷◌}
+use Rattle.theory_meaning.specs.Fraction.{Fraction}
+use Rattle.theory_method.specs.declared.signs.Signs.{Signs}
+use Rattle.theory_method.specs.Polynomial.{Monomial, IsLinearIn}
+use Rattle.theory_method.specs.PolynomialValue.{Values, first_of, rest_of}
+use Rattle.theory_method.specs.SignCondition.{IsAtomPolynomial}
+use Rattle.theory_method.specs.Formula.{Formula, EachAtom, IsTrueAt}
+use Rattle.theory_elimination.specs.Branches.{IsBranch}
+
+-- the point with this value of the symbol
+abbrev pub with_value : ℕ → Fraction → Values → Values
+with_value zero v p = v ∷ rest_of p
+with_value (suc x) v p = first_of p ∷ with_value x v (rest_of p)
+
+-- an atom's polynomial is one, and linear in the symbol
+pub record IsLinearAtom (x : ℕ) (P : List Monomial) (S : Signs) : Type 0 where
+  pub poly : IsAtomPolynomial P
+  pub linear : IsLinearIn x P
+
+-- each atom is linear in the symbol
+abbrev pub IsLinear : ℕ → Formula → Type 0
+IsLinear x F = EachAtom (IsLinearAtom x) F
+
+-- the k-th branch is true at the point, however it is written
+abbrev pub BranchIsTrueAt : ℕ → Formula → Values → ℕ → Type 0
+BranchIsTrueAt x F p k = (G : Formula) → IsBranch x F k G → IsTrueAt p G

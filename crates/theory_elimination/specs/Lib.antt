@@ -1,0 +1,9 @@
+pub mod SameFormula
+pub mod Facts
+pub mod Simplified
+pub mod WorkedForms
+pub mod TestPoint
+pub mod Substituted
+pub mod Branches
+pub mod Elimination
+pub mod Widths

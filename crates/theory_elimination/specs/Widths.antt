@@ -1,0 +1,40 @@
+-- When a cross product of a formula at a test point, or of a branch, passes a limit. Source: this project's own.
+use Rattle.std.specs.Prelude.{◌≡◌, ◌⊎◌, ℕ, List, Some, slice_get, IsTrue}
+use Rattle.theory_method.specs.declared.signs.Signs.{Signs}
+use Rattle.theory_method.specs.Polynomial.{Monomial, cross_of, IsBeyondDivided}
+use Rattle.theory_method.specs.Formula.{Formula, Formulas, always, never, atom, conjunction, disjunction, none, more}
+use Rattle.theory_elimination.specs.TestPoint.{TestPoint, infinity, root, before, slope_in, base_in, holds_symbol}
+use Rattle.theory_elimination.specs.Branches.{Plan, plain, guarded, level, branch_plans}
+
+-- a fact of some atom
+abbrev mutual
+  pub SomeAtom : (List Monomial → Signs → Type 0) → Formula → Type 0
+  SomeAtom Q always = ⊥
+  SomeAtom Q never = ⊥
+  SomeAtom Q (atom P S) = Q P S
+  SomeAtom Q (conjunction Fs) = SomeAtomAmong Q Fs
+  SomeAtom Q (disjunction Fs) = SomeAtomAmong Q Fs
+
+  pub SomeAtomAmong : (List Monomial → Signs → Type 0) → Formulas → Type 0
+  SomeAtomAmong Q none = ⊥
+  SomeAtomAmong Q (more F Fs) = SomeAtom Q F ⊎ SomeAtomAmong Q Fs
+
+-- what is left of the cross product of this slope and base with those of an atom that holds the symbol passes a limit
+abbrev pub IsWideCross : ℕ → List Monomial → List Monomial → List Monomial → Signs → Type 0
+IsWideCross x a b P S = IsTrue (holds_symbol x P) × IsBeyondDivided (cross_of a (base_in x P) (slope_in x P) b)
+
+-- some cross product of the formula at the test point passes a limit
+abbrev pub IsWideAt : ℕ → TestPoint → Formula → Type 0
+IsWideAt x infinity F = ⊥
+IsWideAt x (root a b s) F = SomeAtom (IsWideCross x a b) F
+IsWideAt x (before a b s) F = SomeAtom (IsWideCross x a b) F
+
+-- some cross product of the branch does
+abbrev pub IsWidePlan : ℕ → Plan → Type 0
+IsWidePlan x (plain point F) = IsWideAt x point F
+IsWidePlan x (guarded point a s F) = IsWideAt x point F
+IsWidePlan x (level a b F) = ⊥
+
+-- some cross product of the k-th branch does
+abbrev pub IsWideBranch : ℕ → Formula → ℕ → Type 0
+IsWideBranch x F k = (plan : Plan) × (slice_get (branch_plans x F) k ≡ Some plan) × IsWidePlan x plan
