@@ -18,3 +18,5 @@ pub mod LeastEnd
 pub mod TopEquations
 pub mod BranchLaws
 pub mod PlanLists
+pub mod FreeTerms
+pub mod FreeBranches

@@ -34,7 +34,7 @@ module _ (Q : TestPoint → Type 0) where
   some_rest [] others h = h
   some_rest (point ∷ points) others h = inr (some_rest points others h)
 
-  each_append : (points others : List TestPoint) → EachPoint Q points → EachPoint Q others → EachPoint Q (points ++ others)
+  pub each_append : (points others : List TestPoint) → EachPoint Q points → EachPoint Q others → EachPoint Q (points ++ others)
   each_append [] others h k = k
   each_append (point ∷ points) others h k = (h.0, each_append points others h.1 k)
 

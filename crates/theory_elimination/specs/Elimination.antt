@@ -1,12 +1,12 @@
 -- What the branches of a formula in a symbol say of its values.
-use Rattle.std.specs.Prelude.{ℕ, zero, suc, List, ◌∷◌}
+use Rattle.std.specs.Prelude.{◌≡◌, ℕ, zero, suc, List, ◌∷◌, Some, slice_get}
 use Rattle.theory_meaning.specs.Fraction.{Fraction}
 use Rattle.theory_method.specs.declared.signs.Signs.{Signs}
-use Rattle.theory_method.specs.Polynomial.{Monomial, IsLinearIn}
+use Rattle.theory_method.specs.Polynomial.{Monomial, IsLinearIn, IsFreeOf}
 use Rattle.theory_method.specs.PolynomialValue.{Values, first_of, rest_of}
 use Rattle.theory_method.specs.SignCondition.{IsAtomPolynomial}
 use Rattle.theory_method.specs.Formula.{Formula, EachAtom, IsTrueAt}
-use Rattle.theory_elimination.specs.Branches.{IsBranch}
+use Rattle.theory_elimination.specs.Branches.{level, branch_plans, IsBranch}
 
 -- the point with this value of the symbol
 abbrev pub with_value : ℕ → Fraction → Values → Values
@@ -25,3 +25,11 @@ IsLinear x F = EachAtom (IsLinearAtom x) F
 -- the k-th branch is true at the point, however it is written
 abbrev pub BranchIsTrueAt : ℕ → Formula → Values → ℕ → Type 0
 BranchIsTrueAt x F p k = (G : Formula) → IsBranch x F k G → IsTrueAt p G
+
+-- the symbol occurs in no atom
+abbrev pub IsFree : ℕ → Formula → Type 0
+IsFree x F = EachAtom (λ P S. IsFreeOf x P) F
+
+-- the k-th branch is that of an equation whose slope and base are zero, the third one
+abbrev pub IsLevelBranch : ℕ → Formula → ℕ → Type 0
+IsLevelBranch x F k = (a : List Monomial) × (b : List Monomial) × (G : Formula) × (slice_get (branch_plans x F) k ≡ Some (level a b G))

@@ -7,3 +7,4 @@ pub mod Substituted
 pub mod Branches
 pub mod Elimination
 pub mod Widths
+pub mod WorkedPoints
