@@ -1,4 +1,6 @@
+ghost use Rattle.std.specs.Prelude.{IfOk};
 ghost use Rattle.std.specs.Option.{option_map};
+ghost use Rattle.theory_meaning.specs.Edit.{HaveIdentifiers};
 ghost use Rattle.theory_grammar.specs.Texts.{SpellsLines, IsFirstFault, SpellsOps, IsFirstOpsFault, SpellsOneLine, IsFirstLineFault};
 ghost use Rattle.theory_syntax.specs.Plain.{line_of, lines_of, ops_of};
 ghost use Rattle.theory_text.specs.Answers.{IsReadAs};
@@ -10,7 +12,10 @@ use theory_syntax::{Line, Lines, Ops};
 
 /// The numbered lines of a model text.
 pub fn read_text(alloc: Global, bytes: &[u8]) -> Result<Lines, TextError>
-    ensures { IsReadAs SpellsLines IsFirstFault (λ lines. lines_of lines.items) bytes.now result }
+    ensures exact { IsReadAs SpellsLines IsFirstFault (λ lines. lines_of lines.items) bytes.now result }
+
+    // Names, labels, arguments and shifts are identifiers.
+    ensures identifiers { IfOk result (λ lines. HaveIdentifiers (lines_of lines.items)) }
 {
     Err(TextError {
         kind: TextKind::Memory,
@@ -21,7 +26,7 @@ pub fn read_text(alloc: Global, bytes: &[u8]) -> Result<Lines, TextError>
 
 /// The operations of an edit text.
 pub fn read_ops(alloc: Global, bytes: &[u8]) -> Result<Ops, TextError>
-    ensures { IsReadAs SpellsOps IsFirstOpsFault (λ ops. ops_of ops.items) bytes.now result }
+    ensures exact { IsReadAs SpellsOps IsFirstOpsFault (λ ops. ops_of ops.items) bytes.now result }
 {
     Err(TextError {
         kind: TextKind::Memory,
@@ -32,7 +37,7 @@ pub fn read_ops(alloc: Global, bytes: &[u8]) -> Result<Ops, TextError>
 
 /// The line that the bytes are, or None where they are blanks and a comment.
 pub fn read_line(alloc: Global, bytes: &[u8]) -> Result<Option<Line>, TextError>
-    ensures { IsReadAs SpellsOneLine IsFirstLineFault (option_map line_of) bytes.now result }
+    ensures exact { IsReadAs SpellsOneLine IsFirstLineFault (option_map line_of) bytes.now result }
 {
     Err(TextError {
         kind: TextKind::Memory,
