@@ -6,7 +6,9 @@
 
 mod exprs;
 mod fault;
+mod front;
 mod lines;
+mod nodes;
 
 pub use fault::ParseFault;
 pub use lines::{parse_line, parse_op};

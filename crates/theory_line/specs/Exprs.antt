@@ -1,0 +1,38 @@
+-- Tokens at the front of a part of an expression, for the clauses of private functions.
+use Rattle.std.specs.Prelude.{◌≡◌, ◌≢◌, ℕ, List, [], ◌∷◌}
+use Rattle.theory_meaning.specs.Tree.{Expr}
+use Rattle.theory_meaning.specs.Tree as plain
+use Rattle.theory_grammar.specs.declared.words.Mark.{Mark}
+use Rattle.theory_grammar.specs.declared.words.Mark.TheVariants as sign
+use Rattle.theory_grammar.specs.Token.{Token, number, mark}
+use Rattle.theory_line.specs.declared.front.Addition.{Addition}
+use Rattle.theory_line.specs.declared.front.Addition.TheVariants.{Plus, Minus}
+
+-- the mark of an addition
+abbrev pub addition_mark : Addition → Mark
+addition_mark Plus = sign.Plus
+addition_mark Minus = sign.Minus
+
+-- the mark between the numbers of a fraction literal
+abbrev pub over_mark : Token
+over_mark = mark sign.Over
+
+-- this mark doesn't stand first
+abbrev pub NotMark : Mark → List Token → Type 0
+NotMark m [] = Unit {0}
+NotMark m (mark k ∷ ts) = k ≢ m
+NotMark m (t ∷ ts) = Unit {0}
+
+-- neither a plus nor a minus stands first
+abbrev pub NotSummed : List Token → Type 0
+NotSummed ts = NotMark sign.Plus ts × NotMark sign.Minus ts
+
+-- no number with the mark of a fraction literal behind it stands first
+abbrev pub NotQuotient : List Token → Type 0
+NotQuotient (number n ∷ ts) = NotMark sign.Over ts
+NotQuotient _ = Unit {0}
+
+-- the sum or the difference
+abbrev pub summed : Addition → Expr → Expr → Expr
+summed Plus x y = plain.sum x y
+summed Minus x y = plain.difference x y
