@@ -1,12 +1,17 @@
 -- Tokens at the front of a part of an expression, for the clauses of private functions.
-use Rattle.std.specs.Prelude.{◌≡◌, ◌≢◌, ℕ, List, [], ◌∷◌}
+use Rattle.std.specs.Prelude.{◌≢◌, List, [], ◌∷◌, All, Result, IfOk}
+use Rattle.std.specs.Borrow.{Bor}
 use Rattle.theory_meaning.specs.Tree.{Expr}
 use Rattle.theory_meaning.specs.Tree as plain
 use Rattle.theory_grammar.specs.declared.words.Mark.{Mark}
 use Rattle.theory_grammar.specs.declared.words.Mark.TheVariants as sign
 use Rattle.theory_grammar.specs.Token.{Token, number, mark}
+use Rattle.theory_grammar.specs.Scan.{IsFit}
+use Rattle.theory_line.specs.declared.fault.ParseFault.{ParseFault}
 use Rattle.theory_line.specs.declared.front.Addition.{Addition}
 use Rattle.theory_line.specs.declared.front.Addition.TheVariants.{Plus, Minus}
+use Rattle.theory_tokens.specs.declared.token.Token as source
+use Rattle.theory_tokens.specs.Plain.{plain_tokens}
 
 -- the mark of an addition
 abbrev pub addition_mark : Addition → Mark
@@ -36,3 +41,7 @@ NotQuotient _ = Unit {0}
 abbrev pub summed : Addition → Expr → Expr → Expr
 summed Plus x y = plain.sum x y
 summed Minus x y = plain.difference x y
+
+-- the tokens that are left are fit
+abbrev pub LeavesFit : {V : Type 0} → Result (V × Bor (List source.Token)) ParseFault → Type 0
+LeavesFit result = IfOk result (λ p. All IsFit (plain_tokens p.1.now))

@@ -8,6 +8,7 @@ mod exprs;
 mod fault;
 mod front;
 mod lines;
+mod literals;
 mod nodes;
 
 pub use fault::ParseFault;
