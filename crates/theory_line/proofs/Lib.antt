@@ -1,2 +1,4 @@
 pub mod LiteralLemmas
 pub mod FitLemmas
+pub mod ExprLemmas
+pub mod ParsesLemmas

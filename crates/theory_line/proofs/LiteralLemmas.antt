@@ -1,6 +1,5 @@
 -- The fraction of a literal is the one in lowest terms of its numbers.
-use Rattle.std.proofs.Common.{◌≡◌, ℕ, suc, ◌+◌, ◌-◌, ◌/◌, ◌%◌, ◌<◌, ◌≤◌, ℤ, pos, ◌*ℤ◌, unsigned_abs, to_z, List, [], ◌∷◌, All, refl, sym, ap, subst, subst₂, ◌∙◌, arith}
-use Prim.Native.Nat.{◌∣◌}
+use Rattle.std.proofs.Common.{◌≡◌, ℕ, ◌-◌, ◌/◌, ◌<◌, ◌≤◌, ℤ, pos, ◌*ℤ◌, unsigned_abs, to_z, sym, ap, subst, subst₂, ◌∙◌, arith}
 use Rattle.std.proofs.Math.Nat.{div-le_self, div-one, mod-one}
 use Rattle.std.proofs.lemmas.Int.{to_z_pos}
 use Rattle.std.specs.Int.{w128}
@@ -9,9 +8,7 @@ use Rattle.theory_meaning.specs.Limits.{bound, IsWithin}
 use Rattle.theory_meaning.proofs.OrderLaws.{same_turned, same_trans}
 use Rattle.theory_points.specs.Parts.{IsKept, IsQuotient, parted, less_and_one}
 use Rattle.theory_points.proofs.KeptLemmas.{same_parts}
-use Rattle.theory_grammar.specs.Token.{Token}
-use Rattle.theory_grammar.specs.Scan.{IsFit}
-use Rattle.theory_grammar.specs.Spelled.{euclid, common_divisor, lowest, IsLowest}
+use Rattle.theory_grammar.specs.Spelled.{euclid, common_divisor, lowest}
 use Rattle.theory_grammar.proofs.LowestLaws.{lowest_terms}
 
 -- parts in lowest terms aren't above the numbers that they come from

@@ -37,6 +37,10 @@ abbrev pub NotQuotient : List Token → Type 0
 NotQuotient (number n ∷ ts) = NotMark sign.Over ts
 NotQuotient _ = Unit {0}
 
+-- neither a minus nor a fraction literal stands first
+abbrev pub NeedsPrimary : List Token → Type 0
+NeedsPrimary ts = NotMark sign.Minus ts × NotQuotient ts
+
 -- the sum or the difference
 abbrev pub summed : Addition → Expr → Expr → Expr
 summed Plus x y = plain.sum x y

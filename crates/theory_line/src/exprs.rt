@@ -1,17 +1,26 @@
-ghost use Rattle.std.specs.Prelude.{List, ◌≤◌, ℕ, All};
+ghost use Rattle.std.specs.Prelude.{◌≡◌, suc, ℕ, ◌<◌, ◌≤◌, List, ◌∷◌, All};
 ghost use Rattle.theory_grammar.specs.Scan.{IsFit};
-ghost use Rattle.theory_grammar.proofs.Machine.{Place, Context, fresh, operand};
+ghost use Rattle.theory_grammar.proofs.Machine.{Left, Place, Context, fresh, opposed, joined, operand, closed, factored};
 ghost use Rattle.theory_line.specs.Reading.{Parses, reading};
-ghost use Rattle.theory_line.specs.Behind.{behind_expr};
+ghost use Rattle.theory_line.specs.Behind.{in_sum, behind_term, behind_expr};
+ghost use Rattle.theory_line.specs.Exprs.{LeavesFit, NeedsPrimary};
 ghost use Rattle.theory_syntax.specs.Plain.{expr_of};
 ghost use Rattle.theory_tokens.specs.Plain.{plain_tokens};
 
 use crate::fault::ParseFault;
+use crate::front::{behind_mark, front, sum_sign, upper_number};
+use crate::literals::{fraction, raised, whole_number};
+use crate::nodes::{opposite, product, sum, symbol};
 use std::alloc::Global;
+use theory_grammar::{LineFaultKind, Mark};
 use theory_syntax::Expr;
 use theory_tokens::Token;
 
+/// The greatest number of signs that may be open at once.
+const MOST_OPEN: u32 = 32;
+
 /// An expression and the tokens behind it, in so many open signs.
+#[cycle(expr)]
 pub fn expr<'a>(
     alloc: Global,
     depth: u32,
@@ -19,9 +28,176 @@ pub fn expr<'a>(
 ) -> Result<(Expr, &'a [Token<'a>]), ParseFault>
     requires open { depth ≤ 32 }
     requires fit { All IsFit (plain_tokens tokens.now) }
-    ensures { (o : List Place) (ctx : Context) → Parses expr_of
+    ensures parsed { (o : List Place) (ctx : Context) → Parses expr_of
         (reading (operand (fresh depth) o ctx) (plain_tokens tokens.now))
         (λ x rest. behind_expr x o ctx rest) tokens.now result }
+    ensures fit { LeavesFit result }
 {
-    Err(ParseFault::Memory)
+    let (mut all, mut rest) = match term(alloc, depth, tokens) {
+        Ok(read) => read,
+        Err(fault) => return Err(fault),
+    };
+    while let Some((how, behind)) = sum_sign(rest) {
+        let (next, left_over) = match term(alloc, depth, behind) {
+            Ok(read) => read,
+            Err(fault) => return Err(fault),
+        };
+        all = sum(alloc, how, all, next)?;
+        rest = left_over;
+    }
+    Ok((all, rest))
+}
+
+// A term of a sum and the tokens behind it.
+#[cycle(expr)]
+fn term<'a>(
+    alloc: Global,
+    depth: u32,
+    tokens: &'a [Token<'a>],
+) -> Result<(Expr, &'a [Token<'a>]), ParseFault>
+    requires open { depth ≤ 32 }
+    requires fit { All IsFit (plain_tokens tokens.now) }
+    ensures parsed { (s : Left) (o : List Place) (ctx : Context) → Parses expr_of
+        (reading (operand (in_sum s depth) o ctx) (plain_tokens tokens.now))
+        (λ x rest. behind_term (joined s x) depth o ctx rest) tokens.now result }
+    ensures fit { LeavesFit result }
+{
+    let (mut all, mut rest) = match factor(alloc, depth, tokens) {
+        Ok(read) => read,
+        Err(fault) => return Err(fault),
+    };
+    while let Some(behind) = behind_mark(Mark::Times, rest) {
+        let (next, left_over) = match factor(alloc, depth, behind) {
+            Ok(read) => read,
+            Err(fault) => return Err(fault),
+        };
+        all = product(alloc, all, next)?;
+        rest = left_over;
+    }
+    Ok((all, rest))
+}
+
+// A factor of a term and the tokens behind it.
+#[cycle(expr)]
+fn factor<'a>(
+    alloc: Global,
+    depth: u32,
+    tokens: &'a [Token<'a>],
+) -> Result<(Expr, &'a [Token<'a>]), ParseFault>
+    requires open { depth ≤ 32 }
+    requires fit { All IsFit (plain_tokens tokens.now) }
+    ensures parsed { (p : Place) (o : List Place) (ctx : Context) → p.depth ≡ depth → Parses expr_of
+        (reading (operand p o ctx) (plain_tokens tokens.now))
+        (λ x rest. reading (factored x p o ctx) rest) tokens.now result }
+    ensures fit { LeavesFit result }
+{
+    if let Some(behind) = behind_mark(Mark::Minus, tokens) {
+        return if depth < MOST_OPEN {
+            negated(alloc, depth + 1, behind)
+        } else {
+            Err(ParseFault::At(LineFaultKind::Deep, tokens.len()))
+        };
+    }
+    match upper_number(tokens) {
+        Some((above, behind)) => fraction(above, behind),
+        None => power(alloc, depth, tokens),
+    }
+}
+
+// The opposite of the factor behind a minus, which counts as one of the open signs.
+#[cycle(expr)]
+fn negated<'a>(
+    alloc: Global,
+    depth: u32,
+    tokens: &'a [Token<'a>],
+) -> Result<(Expr, &'a [Token<'a>]), ParseFault>
+    requires open { depth ≤ 32 }
+    requires fit { All IsFit (plain_tokens tokens.now) }
+    ensures parsed { (p : Place) (o : List Place) (ctx : Context) → suc p.depth ≡ depth → Parses expr_of
+        (reading (operand (opposed p) o ctx) (plain_tokens tokens.now))
+        (λ x rest. reading (factored x p o ctx) rest) tokens.now result }
+    ensures fit { LeavesFit result }
+{
+    let (inner, rest) = match factor(alloc, depth, tokens) {
+        Ok(read) => read,
+        Err(fault) => return Err(fault),
+    };
+    Ok((opposite(alloc, inner)?, rest))
+}
+
+// A primary, perhaps with an exponent, and the tokens behind it.
+#[cycle(expr)]
+fn power<'a>(
+    alloc: Global,
+    depth: u32,
+    tokens: &'a [Token<'a>],
+) -> Result<(Expr, &'a [Token<'a>]), ParseFault>
+    requires open { depth ≤ 32 }
+    requires fit { All IsFit (plain_tokens tokens.now) }
+    requires primary { NeedsPrimary (plain_tokens tokens.now) }
+    ensures parsed { (p : Place) (o : List Place) (ctx : Context) → p.depth ≡ depth → Parses expr_of
+        (reading (operand p o ctx) (plain_tokens tokens.now))
+        (λ x rest. reading (factored x p o ctx) rest) tokens.now result }
+    ensures fit { LeavesFit result }
+{
+    let (base, rest) = match primary(alloc, depth, tokens) {
+        Ok(read) => read,
+        Err(fault) => return Err(fault),
+    };
+    match behind_mark(Mark::Power, rest) {
+        Some(behind) => raised(alloc, base, behind),
+        None => Ok((base, rest)),
+    }
+}
+
+// A number, a name or an expression in brackets, and the tokens behind it.
+#[cycle(expr)]
+fn primary<'a>(
+    alloc: Global,
+    depth: u32,
+    tokens: &'a [Token<'a>],
+) -> Result<(Expr, &'a [Token<'a>]), ParseFault>
+    requires open { depth ≤ 32 }
+    requires fit { All IsFit (plain_tokens tokens.now) }
+    requires primary { NeedsPrimary (plain_tokens tokens.now) }
+    ensures parsed { (p : Place) (o : List Place) (ctx : Context) → p.depth ≡ depth → Parses expr_of
+        (reading (operand p o ctx) (plain_tokens tokens.now))
+        (λ x rest. reading (closed x p o ctx) rest) tokens.now result }
+    ensures fit { LeavesFit result }
+{
+    match front(tokens) {
+        Some((Token::Number(number), rest)) => Ok((Expr::Num(whole_number(number)), rest)),
+        Some((Token::Name(name), rest)) => Ok((symbol(alloc, name)?, rest)),
+        Some((Token::Dotted(name), rest)) => Ok((symbol(alloc, name)?, rest)),
+        Some((Token::Mark(Mark::Open), behind)) => if depth < MOST_OPEN {
+            bracketed(alloc, depth + 1, behind)
+        } else {
+            Err(ParseFault::At(LineFaultKind::Deep, tokens.len()))
+        },
+        _ => Err(ParseFault::At(LineFaultKind::Unexpected, tokens.len())),
+    }
+}
+
+// The expression behind an open bracket, and the tokens behind the one that closes it.
+#[cycle(expr)]
+fn bracketed<'a>(
+    alloc: Global,
+    depth: u32,
+    tokens: &'a [Token<'a>],
+) -> Result<(Expr, &'a [Token<'a>]), ParseFault>
+    requires open { depth ≤ 32 }
+    requires fit { All IsFit (plain_tokens tokens.now) }
+    ensures parsed { (p : Place) (o : List Place) (ctx : Context) → Parses expr_of
+        (reading (operand (fresh depth) (p ∷ o) ctx) (plain_tokens tokens.now))
+        (λ x rest. reading (closed x p o ctx) rest) tokens.now result }
+    ensures fit { LeavesFit result }
+{
+    let (inner, rest) = match expr(alloc, depth, tokens) {
+        Ok(read) => read,
+        Err(fault) => return Err(fault),
+    };
+    match behind_mark(Mark::Close, rest) {
+        Some(behind) => Ok((inner, behind)),
+        None => Err(ParseFault::At(LineFaultKind::Unexpected, rest.len())),
+    }
 }

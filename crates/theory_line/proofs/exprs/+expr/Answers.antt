@@ -1,0 +1,217 @@
+use Rattle.std.proofs.Common.{◌≡◌, ℕ, suc, ◌+◌, [], ◌∷◌, length, refl, sym, ap, ◌∙◌, arith}
+use Rattle.theory_grammar.specs.Token as plain
+use Rattle.theory_grammar.specs.declared.words.Mark.TheVariants as sign
+use Rattle.theory_grammar.proofs.Machine.{alone, joined, fresh, opposed, times, left_of_equation, Context, operand, closed, term, factored}
+use Rattle.theory_line.specs.Reading.{reading}
+use Rattle.theory_line.specs.Behind.{in_sum, behind_term, behind_expr}
+use Rattle.theory_line.specs.Exprs.{over_mark}
+use Rattle.theory_syntax.specs.Plain.{expr_of}
+use Rattle.theory_tokens.specs.declared.token.Token.{Token}
+use Rattle.theory_tokens.specs.declared.token.Token.TheVariants.{Mark}
+use Rattle.theory_tokens.specs.Plain.{plain_tokens}
+use Rattle.theory_line.proofs.ExprLemmas.{sum_goes, joined_is, left_of, primary_ends, minus_opens, bracket_opens}
+use Rattle.theory_line.proofs.FitLemmas.{fit_behind, fit_rest}
+use Rattle.theory_line.proofs.ParsesLemmas.{one_fewer, two_fewer, told_from, fault_from}
+use Rattle.theory_line.proofs.exprs.+expr.Goals as goal
+
+-- any context
+some_context : Context
+some_context = left_of_equation []
+
+pub bracketed-returns-in-Err-clause-parsed : goal.bracketed-returns-in-Err-clause-parsed
+bracketed-returns-in-Err-clause-parsed t c = λ p o ctx.
+    fault_from expr_of expr_of _ _ (λ x rest. reading (closed x p o ctx) rest) (λ x rest. behind_expr x (p ∷ o) ctx rest)
+    c.args.tokens.now c.args.tokens.now c.in-Err.fault refl (c.in-Err.ensures.parsed (p ∷ o) ctx)
+
+pub bracketed-returns-in-Some-clause-parsed : goal.bracketed-returns-in-Some-clause-parsed
+bracketed-returns-in-Some-clause-parsed t c = λ p o ctx.
+    let told = c.in-Ok.ensures.parsed (p ∷ o) ctx in
+    let fewer = one_fewer _ c.in-Some.behind.now c.in-Ok.read.1.now c.in-Some.ensures in
+    (told.0 ∙ ap (behind_expr (expr_of c.in-Ok.read.0) (p ∷ o) ctx) c.in-Some.ensures, omega (arith, told.1, fewer))
+
+pub bracketed-returns-in-Some-clause-fit : goal.bracketed-returns-in-Some-clause-fit
+bracketed-returns-in-Some-clause-fit t c = fit_behind _ _ _ c.in-Some.ensures c.in-Ok.ensures.fit
+
+pub expr-returns-in-Err-clause-parsed : goal.expr-returns-in-Err-clause-parsed
+expr-returns-in-Err-clause-parsed t c = λ o ctx.
+    fault_from expr_of expr_of _ _ (λ x rest. behind_expr x o ctx rest) (λ x rest. behind_term x c.args.depth o ctx rest)
+    c.args.tokens.now c.args.tokens.now c.in-Err.fault refl (c.in-Err.ensures.parsed alone o ctx)
+
+pub expr-loop-how-init : goal.expr-loop-how-init
+expr-loop-how-init t c = record {
+  read = λ o ctx. (c.in-Ok.ensures.parsed alone o ctx).0;
+  shorter = (c.in-Ok.ensures.parsed alone [] some_context).1;
+  fit = c.in-Ok.ensures.fit;
+}
+
+pub expr-term-requires-in-Some : goal.expr-term-requires-in-Some
+expr-term-requires-in-Some t c =
+    let fewer = one_fewer _ c.in-Some.behind.now c.loop-how.rest.now c.in-Some.ensures in
+    let fit = fit_behind _ _ _ c.in-Some.ensures c.loop-how.invariant.fit in
+    (omega (arith, c.decreases, fewer, c.loop-how.invariant.shorter), (c.requires.open, fit))
+
+pub expr-returns-in-Err-term-clause-parsed : goal.expr-returns-in-Err-term-clause-parsed
+expr-returns-in-Err-term-clause-parsed t c = λ o ctx.
+    let x = expr_of c.loop-how.all in
+    let s = left_of c.in-Some.how x in
+    let d = c.args.depth in
+    fault_from expr_of expr_of _ _ (λ y rest. behind_expr y o ctx rest) (λ y rest. behind_term (joined s y) d o ctx rest)
+    c.args.tokens.now c.in-Some.behind.now c.in-Err-term.fault
+    (c.loop-how.invariant.read o ctx ∙ ap (behind_term x d o ctx) c.in-Some.ensures ∙ sum_goes c.in-Some.how x d o ctx (plain_tokens c.in-Some.behind.now))
+    (c.in-Err-term.ensures.parsed s o ctx)
+
+pub expr-loop-how-smaller : goal.expr-loop-how-smaller
+expr-loop-how-smaller t c =
+    let fewer = one_fewer _ c.in-Some.behind.now c.loop-how.rest.now c.in-Some.ensures in
+    let told = (c.in-Ok-term.ensures.parsed alone [] some_context).1 in
+    omega (arith, fewer, told)
+
+pub expr-loop-how-preserved : goal.expr-loop-how-preserved
+expr-loop-how-preserved t c =
+    let x = expr_of c.loop-how.all in
+    let how = c.in-Some.how in
+    let s = left_of how x in
+    let d = c.args.depth in
+    let rest = plain_tokens c.in-Ok-term.read.1.now in
+    let fewer = one_fewer _ c.in-Some.behind.now c.loop-how.rest.now c.in-Some.ensures in
+    let told = (c.in-Ok-term.ensures.parsed alone [] some_context).1 in
+    record {
+      read = λ o ctx. c.loop-how.invariant.read o ctx
+          ∙ ap (behind_term x d o ctx) c.in-Some.ensures
+          ∙ sum_goes how x d o ctx (plain_tokens c.in-Some.behind.now)
+          ∙ (c.in-Ok-term.ensures.parsed s o ctx).0
+          ∙ ap (λ y. behind_term y d o ctx rest) (joined_is how x (expr_of c.in-Ok-term.read.0) ∙ sym c.in_ok-all.ensures);
+      shorter = omega (arith, c.loop-how.invariant.shorter, fewer, told);
+      fit = c.in-Ok-term.ensures.fit;
+    }
+
+pub factor-negated-requires : goal.factor-negated-requires
+factor-negated-requires t c =
+    let fewer = one_fewer _ c.in-Some.behind.now c.args.tokens.now c.in-Some.ensures in
+    let fit = fit_behind _ _ _ c.in-Some.ensures c.requires.fit in
+    (omega (arith, c.decreases, fewer), (omega arith, fit))
+
+pub factor-returns-then-depth-lt-MOST_OPEN-clause-parsed :
+    goal.factor-returns-then-depth-lt-MOST_OPEN-clause-parsed
+factor-returns-then-depth-lt-MOST_OPEN-clause-parsed t c = λ p o ctx at.
+    let behind = c.in-Some.behind.now in
+    let fewer = one_fewer _ behind c.args.tokens.now c.in-Some.ensures in
+    let one_more : suc p.depth ≡ c.args.depth + 1 = omega (arith, at) in
+    told_from expr_of _ _ (λ x rest. reading (factored x p o ctx) rest) c.args.tokens.now behind c.negated.result
+    (ap (reading (operand p o ctx)) c.in-Some.ensures ∙ minus_opens p o ctx (plain_tokens behind) (omega (arith, at))) (omega (arith, fewer))
+    (c.negated.ensures.parsed p o ctx one_more)
+
+pub factor-fraction-requires-clause-fit : goal.factor-fraction-requires-clause-fit
+factor-fraction-requires-clause-fit t c =
+    fit_behind over_mark _ _ refl (fit_behind _ _ _ c.in-Some-upper_number.ensures c.requires.fit)
+
+pub factor-returns-in-Some-upper_number-clause-parsed :
+    goal.factor-returns-in-Some-upper_number-clause-parsed
+factor-returns-in-Some-upper_number-clause-parsed t c = λ p o ctx at.
+    let behind = c.in-Some-upper_number.behind.now in
+    told_from expr_of _ _ (λ x rest. reading (factored x p o ctx) rest) c.args.tokens.now behind c.fraction.result
+    (ap (reading (operand p o ctx)) c.in-Some-upper_number.ensures) (two_fewer _ _ behind c.args.tokens.now c.in-Some-upper_number.ensures)
+    (c.fraction.ensures.parsed p o ctx)
+
+pub negated-returns-clause-parsed : goal.negated-returns-clause-parsed
+negated-returns-clause-parsed t c = λ p o ctx at.
+    let told = c.in-Ok.ensures.parsed (opposed p) o ctx at in
+    (told.0 ∙ ap (λ x. reading (factored x p o ctx) (plain_tokens c.in-Ok.read.1.now)) (sym c.in_ok-opposite.ensures), told.1)
+
+pub power-returns-in-Some-clause-parsed : goal.power-returns-in-Some-clause-parsed
+power-returns-in-Some-clause-parsed t c = λ p o ctx at.
+    let x = expr_of c.in-Ok.read.0 in
+    let behind = c.in-Some.behind.now in
+    let told = c.in-Ok.ensures.parsed p o ctx at in
+    let fewer = one_fewer _ behind c.in-Ok.read.1.now c.in-Some.ensures in
+    told_from expr_of _ _ (λ y rest. reading (factored y p o ctx) rest) c.args.tokens.now behind c.raised.result
+    (told.0 ∙ ap (reading (closed x p o ctx)) c.in-Some.ensures) (omega (arith, fewer, told.1))
+    (c.raised.ensures.parsed p o ctx)
+
+pub power-returns-in-None-clause-parsed : goal.power-returns-in-None-clause-parsed
+power-returns-in-None-clause-parsed t c = λ p o ctx at.
+    let told = c.in-Ok.ensures.parsed p o ctx at in
+    (told.0 ∙ primary_ends (expr_of c.in-Ok.read.0) p o ctx (plain_tokens c.in-Ok.read.1.now) c.in-None.ensures, told.1)
+
+pub primary-bracketed-requires : goal.primary-bracketed-requires
+primary-bracketed-requires t c =
+    let found = c.in-Some-Mark-Open-default in
+    let fewer : length c.args.tokens.now ≡ suc (length found.behind.now) = ap length found.ensures in
+    (omega (arith, c.decreases, fewer), (omega arith, fit_rest found.field-0-0 found.behind.now c.args.tokens.now found.ensures c.requires.fit))
+
+pub primary-returns-in-Some-Number-default-clause-fit :
+    goal.primary-returns-in-Some-Number-default-clause-fit
+primary-returns-in-Some-Number-default-clause-fit t c =
+    let found = c.in-Some-Number-default in
+    fit_rest found.field-0-0 found.rest.now c.args.tokens.now found.ensures c.requires.fit
+
+pub primary-returns-in_ok-symbol-in-Some-Name-default-clause-fit :
+    goal.primary-returns-in_ok-symbol-in-Some-Name-default-clause-fit
+primary-returns-in_ok-symbol-in-Some-Name-default-clause-fit t c =
+    let found = c.in-Some-Name-default in
+    fit_rest found.field-0-0 found.rest.now c.args.tokens.now found.ensures c.requires.fit
+
+pub primary-returns-in_ok-symbol-in-Some-Dotted-default-clause-fit :
+    goal.primary-returns-in_ok-symbol-in-Some-Dotted-default-clause-fit
+primary-returns-in_ok-symbol-in-Some-Dotted-default-clause-fit t c =
+    let found = c.in-Some-Dotted-default in
+    fit_rest found.field-0-0 found.rest.now c.args.tokens.now found.ensures c.requires.fit
+
+pub primary-returns-then-depth-lt-MOST_OPEN-clause-parsed :
+    goal.primary-returns-then-depth-lt-MOST_OPEN-clause-parsed
+primary-returns-then-depth-lt-MOST_OPEN-clause-parsed t c = λ p o ctx at.
+    let found = c.in-Some-Mark-Open-default in
+    let behind = found.behind.now in
+    let fewer : length c.args.tokens.now ≡ suc (length behind) = ap length found.ensures in
+    let is : plain_tokens c.args.tokens.now ≡ plain.mark sign.Open ∷ plain_tokens behind =
+    ap plain_tokens (found.ensures ∙ ap (λ (x : Token). x ∷ behind) (found.field-0-0-is ∙ ap Mark found.field-0-0-0-is)) in
+    let one_more : suc p.depth ≡ c.args.depth + 1 = omega (arith, at) in
+    told_from expr_of _ _ (λ x rest. reading (closed x p o ctx) rest) c.args.tokens.now behind c.bracketed.result
+    (ap (reading (operand p o ctx)) is ∙ bracket_opens p o ctx (plain_tokens behind) (omega (arith, at))
+    ∙ ap (λ (d : ℕ). reading (operand (fresh d) (p ∷ o) ctx) (plain_tokens behind)) one_more)
+    (omega (arith, fewer)) (c.bracketed.ensures.parsed p o ctx)
+
+pub term-loop-behind-init : goal.term-loop-behind-init
+term-loop-behind-init t c = record {
+  read = λ s o ctx. (c.in-Ok.ensures.parsed (in_sum s c.args.depth) o ctx refl).0;
+  shorter = (c.in-Ok.ensures.parsed (fresh c.args.depth) [] some_context refl).1;
+  fit = c.in-Ok.ensures.fit;
+}
+
+pub term-factor-requires-in-Some : goal.term-factor-requires-in-Some
+term-factor-requires-in-Some t c =
+    let fewer = one_fewer _ c.in-Some.behind.now c.loop-behind.rest.now c.in-Some.ensures in
+    let fit = fit_behind _ _ _ c.in-Some.ensures c.loop-behind.invariant.fit in
+    (omega (arith, c.decreases, fewer, c.loop-behind.invariant.shorter), (c.requires.open, fit))
+
+pub term-returns-in-Err-factor-clause-parsed : goal.term-returns-in-Err-factor-clause-parsed
+term-returns-in-Err-factor-clause-parsed t c = λ s o ctx.
+    let d = c.args.depth in
+    let x = expr_of c.loop-behind.all in
+    let p = times x (in_sum s d) in
+    fault_from expr_of expr_of _ _ (λ y rest. behind_term (joined s y) d o ctx rest) (λ y rest. reading (factored y p o ctx) rest)
+    c.args.tokens.now c.in-Some.behind.now c.in-Err-factor.fault
+    (c.loop-behind.invariant.read s o ctx ∙ ap (reading (term x (in_sum s d) o ctx)) c.in-Some.ensures)
+    (c.in-Err-factor.ensures.parsed p o ctx refl)
+
+pub term-loop-behind-smaller : goal.term-loop-behind-smaller
+term-loop-behind-smaller t c =
+    let fewer = one_fewer _ c.in-Some.behind.now c.loop-behind.rest.now c.in-Some.ensures in
+    let told = (c.in-Ok-factor.ensures.parsed (fresh c.args.depth) [] some_context refl).1 in
+    omega (arith, fewer, told)
+
+pub term-loop-behind-preserved : goal.term-loop-behind-preserved
+term-loop-behind-preserved t c =
+    let x = expr_of c.loop-behind.all in
+    let d = c.args.depth in
+    let rest = plain_tokens c.in-Ok-factor.read.1.now in
+    let fewer = one_fewer _ c.in-Some.behind.now c.loop-behind.rest.now c.in-Some.ensures in
+    let told = (c.in-Ok-factor.ensures.parsed (fresh d) [] some_context refl).1 in
+    record {
+      read = λ s o ctx. c.loop-behind.invariant.read s o ctx
+          ∙ ap (reading (term x (in_sum s d) o ctx)) c.in-Some.ensures
+          ∙ (c.in-Ok-factor.ensures.parsed (times x (in_sum s d)) o ctx refl).0
+          ∙ ap (λ y. reading (term y (in_sum s d) o ctx) rest) (sym c.in_ok-all.ensures);
+      shorter = omega (arith, c.loop-behind.invariant.shorter, fewer, told);
+      fit = c.in-Ok-factor.ensures.fit;
+    }
