@@ -1,6 +1,7 @@
 -- What is told of a part from one state is told from each that reads the same.
-use Rattle.std.proofs.Common.{◌≡◌, suc, ◌≤◌, List, ◌∷◌, length, Result, Ok, Err, sym, ap, ◌∙◌, arith}
+use Rattle.std.proofs.Common.{◌≡◌, suc, ◌≤◌, List, ◌∷◌, length, Result, Ok, Err, sym, ap, subst, ◌∙◌, arith}
 use Rattle.std.specs.Borrow.{Bor}
+use Rattle.std.specs.Result.{IsErrAnd}
 use Rattle.std.proofs.lemmas.List.{length-map}
 use Rattle.theory_grammar.specs.Token as plain
 use Rattle.theory_line.specs.Reading.{Reading, Parses}
@@ -32,3 +33,15 @@ pub fault_from : {V T W U : Type 0} (tree : V → T) (other : W → U) (from the
     → Parses other there ahead fewer (Err fault) → Parses tree from behind tokens (Err fault)
 fault_from tree other from there behind ahead tokens fewer (At kind left) same told = same ∙ told
 fault_from tree other from there behind ahead tokens fewer Memory same told = tt
+
+-- what is told of a part by a fault
+abbrev Stops : {V T : Type 0} → (V → T) → Reading → (T → List plain.Token → Reading) → List Token → ParseFault → Type 0
+Stops tree from behind tokens fault = Parses tree from behind tokens (Err fault)
+
+-- also where the fault is passed on
+pub fault_passed : {V T W U : Type 0} (tree : V → T) (other : W → U) (from there : Reading) (behind : T → List plain.Token → Reading)
+    (ahead : U → List plain.Token → Reading) (tokens fewer : List Token) (fault : ParseFault) (result : Result (V × Bor (List Token)) ParseFault)
+    → IsErrAnd result (λ e. e ≡ fault) → from ≡ there → Parses other there ahead fewer (Err fault) → Parses tree from behind tokens result
+fault_passed tree other from there behind ahead tokens fewer fault (Ok p) is same told = absurd is
+fault_passed tree other from there behind ahead tokens fewer fault (Err e) is same told =
+    fault_from tree other from there behind ahead tokens fewer e same (subst (Stops other there ahead fewer) (sym is) told)

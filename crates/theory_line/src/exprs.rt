@@ -33,15 +33,9 @@ pub fn expr<'a>(
         (λ x rest. behind_expr x o ctx rest) tokens.now result }
     ensures fit { LeavesFit result }
 {
-    let (mut all, mut rest) = match term(alloc, depth, tokens) {
-        Ok(read) => read,
-        Err(fault) => return Err(fault),
-    };
+    let (mut all, mut rest) = term(alloc, depth, tokens)?;
     while let Some((how, behind)) = sum_sign(rest) {
-        let (next, left_over) = match term(alloc, depth, behind) {
-            Ok(read) => read,
-            Err(fault) => return Err(fault),
-        };
+        let (next, left_over) = term(alloc, depth, behind)?;
         all = sum(alloc, how, all, next)?;
         rest = left_over;
     }
@@ -62,15 +56,9 @@ fn term<'a>(
         (λ x rest. behind_term (joined s x) depth o ctx rest) tokens.now result }
     ensures fit { LeavesFit result }
 {
-    let (mut all, mut rest) = match factor(alloc, depth, tokens) {
-        Ok(read) => read,
-        Err(fault) => return Err(fault),
-    };
+    let (mut all, mut rest) = factor(alloc, depth, tokens)?;
     while let Some(behind) = behind_mark(Mark::Times, rest) {
-        let (next, left_over) = match factor(alloc, depth, behind) {
-            Ok(read) => read,
-            Err(fault) => return Err(fault),
-        };
+        let (next, left_over) = factor(alloc, depth, behind)?;
         all = product(alloc, all, next)?;
         rest = left_over;
     }
@@ -118,10 +106,7 @@ fn negated<'a>(
         (λ x rest. reading (factored x p o ctx) rest) tokens.now result }
     ensures fit { LeavesFit result }
 {
-    let (inner, rest) = match factor(alloc, depth, tokens) {
-        Ok(read) => read,
-        Err(fault) => return Err(fault),
-    };
+    let (inner, rest) = factor(alloc, depth, tokens)?;
     Ok((opposite(alloc, inner)?, rest))
 }
 
@@ -140,10 +125,7 @@ fn power<'a>(
         (λ x rest. reading (factored x p o ctx) rest) tokens.now result }
     ensures fit { LeavesFit result }
 {
-    let (base, rest) = match primary(alloc, depth, tokens) {
-        Ok(read) => read,
-        Err(fault) => return Err(fault),
-    };
+    let (base, rest) = primary(alloc, depth, tokens)?;
     match behind_mark(Mark::Power, rest) {
         Some(behind) => raised(alloc, base, behind),
         None => Ok((base, rest)),
@@ -192,10 +174,7 @@ fn bracketed<'a>(
         (λ x rest. reading (closed x p o ctx) rest) tokens.now result }
     ensures fit { LeavesFit result }
 {
-    let (inner, rest) = match expr(alloc, depth, tokens) {
-        Ok(read) => read,
-        Err(fault) => return Err(fault),
-    };
+    let (inner, rest) = expr(alloc, depth, tokens)?;
     match behind_mark(Mark::Close, rest) {
         Some(behind) => Ok((inner, behind)),
         None => Err(ParseFault::At(LineFaultKind::Unexpected, rest.len())),

@@ -11,37 +11,37 @@ use Rattle.theory_tokens.specs.declared.token.Token.TheVariants.{Mark}
 use Rattle.theory_tokens.specs.Plain.{plain_tokens}
 use Rattle.theory_line.proofs.ExprLemmas.{sum_goes, joined_is, left_of, primary_ends, minus_opens, bracket_opens}
 use Rattle.theory_line.proofs.FitLemmas.{fit_behind, fit_rest}
-use Rattle.theory_line.proofs.ParsesLemmas.{one_fewer, two_fewer, told_from, fault_from}
+use Rattle.theory_line.proofs.ParsesLemmas.{one_fewer, two_fewer, told_from, fault_passed}
 use Rattle.theory_line.proofs.exprs.+expr.Goals as goal
 
 -- any context
 some_context : Context
 some_context = left_of_equation []
 
-pub bracketed-returns-in-Err-clause-parsed : goal.bracketed-returns-in-Err-clause-parsed
-bracketed-returns-in-Err-clause-parsed t c = λ p o ctx.
-    fault_from expr_of expr_of _ _ (λ x rest. reading (closed x p o ctx) rest) (λ x rest. behind_expr x (p ∷ o) ctx rest)
-    c.args.tokens.now c.args.tokens.now c.in-Err.fault refl (c.in-Err.ensures.parsed (p ∷ o) ctx)
+pub bracketed-returns-in_err-inner-clause-parsed : goal.bracketed-returns-in_err-inner-clause-parsed
+bracketed-returns-in_err-inner-clause-parsed t c = λ p o ctx.
+    fault_passed expr_of expr_of _ _ (λ x rest. reading (closed x p o ctx) rest) (λ x rest. behind_expr x (p ∷ o) ctx rest)
+    c.args.tokens.now c.args.tokens.now c.in_err-inner.field-0.0 c.from_residual.result c.from_residual.ensures.1 refl (c.in_err-inner.ensures.parsed (p ∷ o) ctx)
 
 pub bracketed-returns-in-Some-clause-parsed : goal.bracketed-returns-in-Some-clause-parsed
 bracketed-returns-in-Some-clause-parsed t c = λ p o ctx.
-    let told = c.in-Ok.ensures.parsed (p ∷ o) ctx in
-    let fewer = one_fewer _ c.in-Some.behind.now c.in-Ok.read.1.now c.in-Some.ensures in
-    (told.0 ∙ ap (behind_expr (expr_of c.in-Ok.read.0) (p ∷ o) ctx) c.in-Some.ensures, omega (arith, told.1, fewer))
+    let told = c.in_ok-inner.ensures.parsed (p ∷ o) ctx in
+    let fewer = one_fewer _ c.in-Some.behind.now c.in_ok-inner.rest.now c.in-Some.ensures in
+    (told.0 ∙ ap (behind_expr (expr_of c.in_ok-inner.inner) (p ∷ o) ctx) c.in-Some.ensures, omega (arith, told.1, fewer))
 
 pub bracketed-returns-in-Some-clause-fit : goal.bracketed-returns-in-Some-clause-fit
-bracketed-returns-in-Some-clause-fit t c = fit_behind _ _ _ c.in-Some.ensures c.in-Ok.ensures.fit
+bracketed-returns-in-Some-clause-fit t c = fit_behind _ _ _ c.in-Some.ensures c.in_ok-inner.ensures.fit
 
-pub expr-returns-in-Err-clause-parsed : goal.expr-returns-in-Err-clause-parsed
-expr-returns-in-Err-clause-parsed t c = λ o ctx.
-    fault_from expr_of expr_of _ _ (λ x rest. behind_expr x o ctx rest) (λ x rest. behind_term x c.args.depth o ctx rest)
-    c.args.tokens.now c.args.tokens.now c.in-Err.fault refl (c.in-Err.ensures.parsed alone o ctx)
+pub expr-returns-in_err-all-clause-parsed : goal.expr-returns-in_err-all-clause-parsed
+expr-returns-in_err-all-clause-parsed t c = λ o ctx.
+    fault_passed expr_of expr_of _ _ (λ x rest. behind_expr x o ctx rest) (λ x rest. behind_term x c.args.depth o ctx rest)
+    c.args.tokens.now c.args.tokens.now c.in_err-all.field-0.0 c.from_residual.result c.from_residual.ensures.1 refl (c.in_err-all.ensures.parsed alone o ctx)
 
 pub expr-loop-how-init : goal.expr-loop-how-init
 expr-loop-how-init t c = record {
-  read = λ o ctx. (c.in-Ok.ensures.parsed alone o ctx).0;
-  shorter = (c.in-Ok.ensures.parsed alone [] some_context).1;
-  fit = c.in-Ok.ensures.fit;
+  read = λ o ctx. (c.in_ok-all.ensures.parsed alone o ctx).0;
+  shorter = (c.in_ok-all.ensures.parsed alone [] some_context).1;
+  fit = c.in_ok-all.ensures.fit;
 }
 
 pub expr-term-requires-in-Some : goal.expr-term-requires-in-Some
@@ -50,20 +50,20 @@ expr-term-requires-in-Some t c =
     let fit = fit_behind _ _ _ c.in-Some.ensures c.loop-how.invariant.fit in
     (omega (arith, c.decreases, fewer, c.loop-how.invariant.shorter), (c.requires.open, fit))
 
-pub expr-returns-in-Err-term-clause-parsed : goal.expr-returns-in-Err-term-clause-parsed
-expr-returns-in-Err-term-clause-parsed t c = λ o ctx.
+pub expr-returns-in_err-next-clause-parsed : goal.expr-returns-in_err-next-clause-parsed
+expr-returns-in_err-next-clause-parsed t c = λ o ctx.
     let x = expr_of c.loop-how.all in
     let s = left_of c.in-Some.how x in
     let d = c.args.depth in
-    fault_from expr_of expr_of _ _ (λ y rest. behind_expr y o ctx rest) (λ y rest. behind_term (joined s y) d o ctx rest)
-    c.args.tokens.now c.in-Some.behind.now c.in-Err-term.fault
+    fault_passed expr_of expr_of _ _ (λ y rest. behind_expr y o ctx rest) (λ y rest. behind_term (joined s y) d o ctx rest)
+    c.args.tokens.now c.in-Some.behind.now c.in_err-next.field-0.0 c.from_residual-in_err-next.result c.from_residual-in_err-next.ensures.1
     (c.loop-how.invariant.read o ctx ∙ ap (behind_term x d o ctx) c.in-Some.ensures ∙ sum_goes c.in-Some.how x d o ctx (plain_tokens c.in-Some.behind.now))
-    (c.in-Err-term.ensures.parsed s o ctx)
+    (c.in_err-next.ensures.parsed s o ctx)
 
 pub expr-loop-how-smaller : goal.expr-loop-how-smaller
 expr-loop-how-smaller t c =
     let fewer = one_fewer _ c.in-Some.behind.now c.loop-how.rest.now c.in-Some.ensures in
-    let told = (c.in-Ok-term.ensures.parsed alone [] some_context).1 in
+    let told = (c.in_ok-next.ensures.parsed alone [] some_context).1 in
     omega (arith, fewer, told)
 
 pub expr-loop-how-preserved : goal.expr-loop-how-preserved
@@ -72,17 +72,17 @@ expr-loop-how-preserved t c =
     let how = c.in-Some.how in
     let s = left_of how x in
     let d = c.args.depth in
-    let rest = plain_tokens c.in-Ok-term.read.1.now in
+    let rest = plain_tokens c.in_ok-next.left_over.now in
     let fewer = one_fewer _ c.in-Some.behind.now c.loop-how.rest.now c.in-Some.ensures in
-    let told = (c.in-Ok-term.ensures.parsed alone [] some_context).1 in
+    let told = (c.in_ok-next.ensures.parsed alone [] some_context).1 in
     record {
       read = λ o ctx. c.loop-how.invariant.read o ctx
           ∙ ap (behind_term x d o ctx) c.in-Some.ensures
           ∙ sum_goes how x d o ctx (plain_tokens c.in-Some.behind.now)
-          ∙ (c.in-Ok-term.ensures.parsed s o ctx).0
-          ∙ ap (λ y. behind_term y d o ctx rest) (joined_is how x (expr_of c.in-Ok-term.read.0) ∙ sym c.in_ok-all.ensures);
+          ∙ (c.in_ok-next.ensures.parsed s o ctx).0
+          ∙ ap (λ y. behind_term y d o ctx rest) (joined_is how x (expr_of c.in_ok-next.next) ∙ sym c.in_ok-all-2.ensures);
       shorter = omega (arith, c.loop-how.invariant.shorter, fewer, told);
-      fit = c.in-Ok-term.ensures.fit;
+      fit = c.in_ok-next.ensures.fit;
     }
 
 pub factor-negated-requires : goal.factor-negated-requires
@@ -115,23 +115,23 @@ factor-returns-in-Some-upper_number-clause-parsed t c = λ p o ctx at.
 
 pub negated-returns-clause-parsed : goal.negated-returns-clause-parsed
 negated-returns-clause-parsed t c = λ p o ctx at.
-    let told = c.in-Ok.ensures.parsed (opposed p) o ctx at in
-    (told.0 ∙ ap (λ x. reading (factored x p o ctx) (plain_tokens c.in-Ok.read.1.now)) (sym c.in_ok-opposite.ensures), told.1)
+    let told = c.in_ok-inner.ensures.parsed (opposed p) o ctx at in
+    (told.0 ∙ ap (λ x. reading (factored x p o ctx) (plain_tokens c.in_ok-inner.rest.now)) (sym c.in_ok-opposite.ensures), told.1)
 
 pub power-returns-in-Some-clause-parsed : goal.power-returns-in-Some-clause-parsed
 power-returns-in-Some-clause-parsed t c = λ p o ctx at.
-    let x = expr_of c.in-Ok.read.0 in
+    let x = expr_of c.in_ok-base.base in
     let behind = c.in-Some.behind.now in
-    let told = c.in-Ok.ensures.parsed p o ctx at in
-    let fewer = one_fewer _ behind c.in-Ok.read.1.now c.in-Some.ensures in
+    let told = c.in_ok-base.ensures.parsed p o ctx at in
+    let fewer = one_fewer _ behind c.in_ok-base.rest.now c.in-Some.ensures in
     told_from expr_of _ _ (λ y rest. reading (factored y p o ctx) rest) c.args.tokens.now behind c.raised.result
     (told.0 ∙ ap (reading (closed x p o ctx)) c.in-Some.ensures) (omega (arith, fewer, told.1))
     (c.raised.ensures.parsed p o ctx)
 
 pub power-returns-in-None-clause-parsed : goal.power-returns-in-None-clause-parsed
 power-returns-in-None-clause-parsed t c = λ p o ctx at.
-    let told = c.in-Ok.ensures.parsed p o ctx at in
-    (told.0 ∙ primary_ends (expr_of c.in-Ok.read.0) p o ctx (plain_tokens c.in-Ok.read.1.now) c.in-None.ensures, told.1)
+    let told = c.in_ok-base.ensures.parsed p o ctx at in
+    (told.0 ∙ primary_ends (expr_of c.in_ok-base.base) p o ctx (plain_tokens c.in_ok-base.rest.now) c.in-None.ensures, told.1)
 
 pub primary-bracketed-requires : goal.primary-bracketed-requires
 primary-bracketed-requires t c =
@@ -173,9 +173,9 @@ primary-returns-then-depth-lt-MOST_OPEN-clause-parsed t c = λ p o ctx at.
 
 pub term-loop-behind-init : goal.term-loop-behind-init
 term-loop-behind-init t c = record {
-  read = λ s o ctx. (c.in-Ok.ensures.parsed (in_sum s c.args.depth) o ctx refl).0;
-  shorter = (c.in-Ok.ensures.parsed (fresh c.args.depth) [] some_context refl).1;
-  fit = c.in-Ok.ensures.fit;
+  read = λ s o ctx. (c.in_ok-all.ensures.parsed (in_sum s c.args.depth) o ctx refl).0;
+  shorter = (c.in_ok-all.ensures.parsed (fresh c.args.depth) [] some_context refl).1;
+  fit = c.in_ok-all.ensures.fit;
 }
 
 pub term-factor-requires-in-Some : goal.term-factor-requires-in-Some
@@ -184,34 +184,56 @@ term-factor-requires-in-Some t c =
     let fit = fit_behind _ _ _ c.in-Some.ensures c.loop-behind.invariant.fit in
     (omega (arith, c.decreases, fewer, c.loop-behind.invariant.shorter), (c.requires.open, fit))
 
-pub term-returns-in-Err-factor-clause-parsed : goal.term-returns-in-Err-factor-clause-parsed
-term-returns-in-Err-factor-clause-parsed t c = λ s o ctx.
+pub term-returns-in_err-next-clause-parsed : goal.term-returns-in_err-next-clause-parsed
+term-returns-in_err-next-clause-parsed t c = λ s o ctx.
     let d = c.args.depth in
     let x = expr_of c.loop-behind.all in
     let p = times x (in_sum s d) in
-    fault_from expr_of expr_of _ _ (λ y rest. behind_term (joined s y) d o ctx rest) (λ y rest. reading (factored y p o ctx) rest)
-    c.args.tokens.now c.in-Some.behind.now c.in-Err-factor.fault
+    fault_passed expr_of expr_of _ _ (λ y rest. behind_term (joined s y) d o ctx rest) (λ y rest. reading (factored y p o ctx) rest)
+    c.args.tokens.now c.in-Some.behind.now c.in_err-next.field-0.0 c.from_residual-in_err-next.result c.from_residual-in_err-next.ensures.1
     (c.loop-behind.invariant.read s o ctx ∙ ap (reading (term x (in_sum s d) o ctx)) c.in-Some.ensures)
-    (c.in-Err-factor.ensures.parsed p o ctx refl)
+    (c.in_err-next.ensures.parsed p o ctx refl)
 
 pub term-loop-behind-smaller : goal.term-loop-behind-smaller
 term-loop-behind-smaller t c =
     let fewer = one_fewer _ c.in-Some.behind.now c.loop-behind.rest.now c.in-Some.ensures in
-    let told = (c.in-Ok-factor.ensures.parsed (fresh c.args.depth) [] some_context refl).1 in
+    let told = (c.in_ok-next.ensures.parsed (fresh c.args.depth) [] some_context refl).1 in
     omega (arith, fewer, told)
 
 pub term-loop-behind-preserved : goal.term-loop-behind-preserved
 term-loop-behind-preserved t c =
     let x = expr_of c.loop-behind.all in
     let d = c.args.depth in
-    let rest = plain_tokens c.in-Ok-factor.read.1.now in
+    let rest = plain_tokens c.in_ok-next.left_over.now in
     let fewer = one_fewer _ c.in-Some.behind.now c.loop-behind.rest.now c.in-Some.ensures in
-    let told = (c.in-Ok-factor.ensures.parsed (fresh d) [] some_context refl).1 in
+    let told = (c.in_ok-next.ensures.parsed (fresh d) [] some_context refl).1 in
     record {
       read = λ s o ctx. c.loop-behind.invariant.read s o ctx
           ∙ ap (reading (term x (in_sum s d) o ctx)) c.in-Some.ensures
-          ∙ (c.in-Ok-factor.ensures.parsed (times x (in_sum s d)) o ctx refl).0
-          ∙ ap (λ y. reading (term y (in_sum s d) o ctx) rest) (sym c.in_ok-all.ensures);
+          ∙ (c.in_ok-next.ensures.parsed (times x (in_sum s d)) o ctx refl).0
+          ∙ ap (λ y. reading (term y (in_sum s d) o ctx) rest) (sym c.in_ok-all-2.ensures);
       shorter = omega (arith, c.loop-behind.invariant.shorter, fewer, told);
-      fit = c.in-Ok-factor.ensures.fit;
+      fit = c.in_ok-next.ensures.fit;
     }
+
+pub negated-returns-in_err-inner-clause-parsed : goal.negated-returns-in_err-inner-clause-parsed
+negated-returns-in_err-inner-clause-parsed t c = λ p o ctx at.
+    fault_passed expr_of expr_of _ _ (λ x rest. reading (factored x p o ctx) rest) (λ x rest. reading (factored x (opposed p) o ctx) rest)
+    c.args.tokens.now c.args.tokens.now c.in_err-inner.field-0.0 c.from_residual.result c.from_residual.ensures.1 refl
+    (c.in_err-inner.ensures.parsed (opposed p) o ctx at)
+
+pub power-returns-in_err-base-clause-parsed : goal.power-returns-in_err-base-clause-parsed
+power-returns-in_err-base-clause-parsed t c = λ p o ctx at.
+    fault_passed expr_of expr_of _ _ (λ x rest. reading (factored x p o ctx) rest) (λ x rest. reading (closed x p o ctx) rest)
+    c.args.tokens.now c.args.tokens.now c.in_err-base.field-0.0 c.from_residual.result c.from_residual.ensures.1 refl
+    (c.in_err-base.ensures.parsed p o ctx at)
+
+pub power-raised-requires : goal.power-raised-requires
+power-raised-requires t c = record { fit = fit_behind _ _ _ c.in-Some.ensures c.in_ok-base.ensures.fit }
+
+pub term-returns-in_err-all-clause-parsed : goal.term-returns-in_err-all-clause-parsed
+term-returns-in_err-all-clause-parsed t c = λ s o ctx.
+    let p = in_sum s c.args.depth in
+    fault_passed expr_of expr_of _ _ (λ y rest. behind_term (joined s y) c.args.depth o ctx rest) (λ y rest. reading (factored y p o ctx) rest)
+    c.args.tokens.now c.args.tokens.now c.in_err-all.field-0.0 c.from_residual.result c.from_residual.ensures.1 refl
+    (c.in_err-all.ensures.parsed p o ctx refl)
