@@ -1,5 +1,5 @@
 -- Tokens at the front of a part of an expression, for the clauses of private functions.
-use Rattle.std.specs.Prelude.{◌≢◌, List, [], ◌∷◌, All, Result, IfOk}
+use Rattle.std.specs.Prelude.{◌≢◌, List, [], ◌∷◌, All, Result, Ok, Err}
 use Rattle.std.specs.Borrow.{Bor}
 use Rattle.theory_meaning.specs.Tree.{Expr}
 use Rattle.theory_meaning.specs.Tree as plain
@@ -46,6 +46,7 @@ abbrev pub summed : Addition → Expr → Expr → Expr
 summed Plus x y = plain.sum x y
 summed Minus x y = plain.difference x y
 
--- the tokens that are left are fit
+-- the tokens behind a part that was read are fit
 abbrev pub LeavesFit : {V : Type 0} → Result (V × Bor (List source.Token)) ParseFault → Type 0
-LeavesFit result = IfOk result (λ p. All IsFit (plain_tokens p.1.now))
+LeavesFit (Ok (v, rest)) = All IsFit (plain_tokens rest.now)
+LeavesFit (Err fault) = Unit {0}

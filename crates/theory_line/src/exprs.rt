@@ -28,7 +28,7 @@ pub fn expr<'a>(
 ) -> Result<(Expr, &'a [Token<'a>]), ParseFault>
     requires open { depth ≤ 32 }
     requires fit { All IsFit (plain_tokens tokens.now) }
-    ensures parsed { (o : List Place) (ctx : Context) → Parses expr_of
+    ensures parses { (o : List Place) (ctx : Context) → Parses expr_of
         (reading (operand (fresh depth) o ctx) (plain_tokens tokens.now))
         (λ x rest. behind_expr x o ctx rest) tokens.now result }
     ensures fit { LeavesFit result }
@@ -51,7 +51,7 @@ fn term<'a>(
 ) -> Result<(Expr, &'a [Token<'a>]), ParseFault>
     requires open { depth ≤ 32 }
     requires fit { All IsFit (plain_tokens tokens.now) }
-    ensures parsed { (s : Left) (o : List Place) (ctx : Context) → Parses expr_of
+    ensures parses { (s : Left) (o : List Place) (ctx : Context) → Parses expr_of
         (reading (operand (in_sum s depth) o ctx) (plain_tokens tokens.now))
         (λ x rest. behind_term (joined s x) depth o ctx rest) tokens.now result }
     ensures fit { LeavesFit result }
@@ -74,7 +74,7 @@ fn factor<'a>(
 ) -> Result<(Expr, &'a [Token<'a>]), ParseFault>
     requires open { depth ≤ 32 }
     requires fit { All IsFit (plain_tokens tokens.now) }
-    ensures parsed { (p : Place) (o : List Place) (ctx : Context) → p.depth ≡ depth → Parses expr_of
+    ensures parses { (p : Place) (o : List Place) (ctx : Context) → p.depth ≡ depth → Parses expr_of
         (reading (operand p o ctx) (plain_tokens tokens.now))
         (λ x rest. reading (factored x p o ctx) rest) tokens.now result }
     ensures fit { LeavesFit result }
@@ -101,7 +101,7 @@ fn negated<'a>(
 ) -> Result<(Expr, &'a [Token<'a>]), ParseFault>
     requires open { depth ≤ 32 }
     requires fit { All IsFit (plain_tokens tokens.now) }
-    ensures parsed { (p : Place) (o : List Place) (ctx : Context) → suc p.depth ≡ depth → Parses expr_of
+    ensures parses { (p : Place) (o : List Place) (ctx : Context) → suc p.depth ≡ depth → Parses expr_of
         (reading (operand (opposed p) o ctx) (plain_tokens tokens.now))
         (λ x rest. reading (factored x p o ctx) rest) tokens.now result }
     ensures fit { LeavesFit result }
@@ -120,7 +120,7 @@ fn power<'a>(
     requires open { depth ≤ 32 }
     requires fit { All IsFit (plain_tokens tokens.now) }
     requires primary { NeedsPrimary (plain_tokens tokens.now) }
-    ensures parsed { (p : Place) (o : List Place) (ctx : Context) → p.depth ≡ depth → Parses expr_of
+    ensures parses { (p : Place) (o : List Place) (ctx : Context) → p.depth ≡ depth → Parses expr_of
         (reading (operand p o ctx) (plain_tokens tokens.now))
         (λ x rest. reading (factored x p o ctx) rest) tokens.now result }
     ensures fit { LeavesFit result }
@@ -142,7 +142,7 @@ fn primary<'a>(
     requires open { depth ≤ 32 }
     requires fit { All IsFit (plain_tokens tokens.now) }
     requires primary { NeedsPrimary (plain_tokens tokens.now) }
-    ensures parsed { (p : Place) (o : List Place) (ctx : Context) → p.depth ≡ depth → Parses expr_of
+    ensures parses { (p : Place) (o : List Place) (ctx : Context) → p.depth ≡ depth → Parses expr_of
         (reading (operand p o ctx) (plain_tokens tokens.now))
         (λ x rest. reading (closed x p o ctx) rest) tokens.now result }
     ensures fit { LeavesFit result }
@@ -169,7 +169,7 @@ fn bracketed<'a>(
 ) -> Result<(Expr, &'a [Token<'a>]), ParseFault>
     requires open { depth ≤ 32 }
     requires fit { All IsFit (plain_tokens tokens.now) }
-    ensures parsed { (p : Place) (o : List Place) (ctx : Context) → Parses expr_of
+    ensures parses { (p : Place) (o : List Place) (ctx : Context) → Parses expr_of
         (reading (operand (fresh depth) (p ∷ o) ctx) (plain_tokens tokens.now))
         (λ x rest. reading (closed x p o ctx) rest) tokens.now result }
     ensures fit { LeavesFit result }

@@ -46,7 +46,7 @@ pub fn fraction<'a>(
 ) -> Result<(Expr, &'a [Token<'a>]), ParseFault>
     requires above { above ≤ bound }
     requires fit { All IsFit (plain_tokens tokens.now) }
-    ensures parsed { (p : Place) (o : List Place) (ctx : Context) → Parses expr_of
+    ensures parses { (p : Place) (o : List Place) (ctx : Context) → Parses expr_of
         (reading (below above p o ctx) (plain_tokens tokens.now))
         (λ x rest. reading (factored x p o ctx) rest) tokens.now result }
     ensures fit { LeavesFit result }
@@ -68,7 +68,7 @@ pub fn raised<'a>(
     tokens: &'a [Token<'a>],
 ) -> Result<(Expr, &'a [Token<'a>]), ParseFault>
     requires fit { All IsFit (plain_tokens tokens.now) }
-    ensures parsed { (p : Place) (o : List Place) (ctx : Context) → Parses expr_of
+    ensures parses { (p : Place) (o : List Place) (ctx : Context) → Parses expr_of
         (reading (exponent (expr_of base) p o ctx) (plain_tokens tokens.now))
         (λ x rest. reading (factored x p o ctx) rest) tokens.now result }
     ensures fit { LeavesFit result }
