@@ -4,6 +4,8 @@
 //! or their first fault. Read `parse_line` first.
 #![tactic(auto)]
 
+#[cfg(test)]
+mod expr_tests;
 mod exprs;
 mod fault;
 mod front;
