@@ -26,7 +26,7 @@ pub fn whole_number(number: u64) -> Frac
     quotient(number, 1)
 }
 
-/// The fraction of these numbers in lowest terms.
+// The fraction of these numbers in lowest terms.
 fn quotient(above: u64, below: u64) -> Frac
     requires above { above ≤ bound }
     requires below { below ≤ bound }
