@@ -1,9 +1,10 @@
-ghost use Rattle.std.specs.Prelude.{◌≡◌, suc, ℕ, ◌<◌, ◌≤◌, List, ◌∷◌, All};
+ghost use Rattle.std.specs.Prelude.{ℕ, ◌≤◌, List, All};
 ghost use Rattle.theory_grammar.specs.Scan.{IsFit};
-ghost use Rattle.theory_grammar.proofs.Machine.{Left, Place, Context, fresh, opposed, joined, operand, closed, factored};
+ghost use Rattle.theory_grammar.proofs.Machine.{Place, Context, fresh, operand};
 ghost use Rattle.theory_line.specs.Reading.{Parses, reading};
-ghost use Rattle.theory_line.specs.Behind.{in_sum, behind_term, behind_expr};
-ghost use Rattle.theory_line.specs.Exprs.{LeavesFit, NeedsPrimary};
+ghost use Rattle.theory_line.specs.Behind.{behind_expr};
+ghost use Rattle.theory_line.specs.Exprs.{LeavesFit, NeedsPrimary, ParsesTerm, ParsesFactor};
+ghost use Rattle.theory_line.specs.Exprs.{ParsesOpposite, ParsesPrimary, ParsesBracketed};
 ghost use Rattle.theory_syntax.specs.Plain.{expr_of};
 ghost use Rattle.theory_tokens.specs.Plain.{plain_tokens};
 
@@ -51,9 +52,7 @@ fn term<'a>(
 ) -> Result<(Expr, &'a [Token<'a>]), ParseFault>
     requires open { depth ≤ 32 }
     requires fit { All IsFit (plain_tokens tokens.now) }
-    ensures parses { (s : Left) (o : List Place) (ctx : Context) → Parses expr_of
-        (reading (operand (in_sum s depth) o ctx) (plain_tokens tokens.now))
-        (λ x rest. behind_term (joined s x) depth o ctx rest) tokens.now result }
+    ensures parses { ParsesTerm depth tokens.now result }
     ensures fit { LeavesFit result }
 {
     let (mut all, mut rest) = factor(alloc, depth, tokens)?;
@@ -74,9 +73,7 @@ fn factor<'a>(
 ) -> Result<(Expr, &'a [Token<'a>]), ParseFault>
     requires open { depth ≤ 32 }
     requires fit { All IsFit (plain_tokens tokens.now) }
-    ensures parses { (p : Place) (o : List Place) (ctx : Context) → p.depth ≡ depth → Parses expr_of
-        (reading (operand p o ctx) (plain_tokens tokens.now))
-        (λ x rest. reading (factored x p o ctx) rest) tokens.now result }
+    ensures parses { ParsesFactor depth tokens.now result }
     ensures fit { LeavesFit result }
 {
     if let Some(behind) = behind_mark(Mark::Minus, tokens) {
@@ -101,9 +98,7 @@ fn negated<'a>(
 ) -> Result<(Expr, &'a [Token<'a>]), ParseFault>
     requires open { depth ≤ 32 }
     requires fit { All IsFit (plain_tokens tokens.now) }
-    ensures parses { (p : Place) (o : List Place) (ctx : Context) → suc p.depth ≡ depth → Parses expr_of
-        (reading (operand (opposed p) o ctx) (plain_tokens tokens.now))
-        (λ x rest. reading (factored x p o ctx) rest) tokens.now result }
+    ensures parses { ParsesOpposite depth tokens.now result }
     ensures fit { LeavesFit result }
 {
     let (inner, rest) = factor(alloc, depth, tokens)?;
@@ -120,9 +115,7 @@ fn power<'a>(
     requires open { depth ≤ 32 }
     requires fit { All IsFit (plain_tokens tokens.now) }
     requires primary { NeedsPrimary (plain_tokens tokens.now) }
-    ensures parses { (p : Place) (o : List Place) (ctx : Context) → p.depth ≡ depth → Parses expr_of
-        (reading (operand p o ctx) (plain_tokens tokens.now))
-        (λ x rest. reading (factored x p o ctx) rest) tokens.now result }
+    ensures parses { ParsesFactor depth tokens.now result }
     ensures fit { LeavesFit result }
 {
     let (base, rest) = primary(alloc, depth, tokens)?;
@@ -142,9 +135,7 @@ fn primary<'a>(
     requires open { depth ≤ 32 }
     requires fit { All IsFit (plain_tokens tokens.now) }
     requires primary { NeedsPrimary (plain_tokens tokens.now) }
-    ensures parses { (p : Place) (o : List Place) (ctx : Context) → p.depth ≡ depth → Parses expr_of
-        (reading (operand p o ctx) (plain_tokens tokens.now))
-        (λ x rest. reading (closed x p o ctx) rest) tokens.now result }
+    ensures parses { ParsesPrimary depth tokens.now result }
     ensures fit { LeavesFit result }
 {
     match front(tokens) {
@@ -169,9 +160,7 @@ fn bracketed<'a>(
 ) -> Result<(Expr, &'a [Token<'a>]), ParseFault>
     requires open { depth ≤ 32 }
     requires fit { All IsFit (plain_tokens tokens.now) }
-    ensures parses { (p : Place) (o : List Place) (ctx : Context) → Parses expr_of
-        (reading (operand (fresh depth) (p ∷ o) ctx) (plain_tokens tokens.now))
-        (λ x rest. reading (closed x p o ctx) rest) tokens.now result }
+    ensures parses { ParsesBracketed depth tokens.now result }
     ensures fit { LeavesFit result }
 {
     let (inner, rest) = expr(alloc, depth, tokens)?;

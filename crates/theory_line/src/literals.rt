@@ -3,9 +3,7 @@ ghost use Rattle.theory_meaning.specs.Fraction.{whole};
 ghost use Rattle.theory_meaning.specs.Limits.{bound};
 ghost use Rattle.theory_grammar.specs.Scan.{IsFit};
 ghost use Rattle.theory_grammar.specs.Spelled.{lowest};
-ghost use Rattle.theory_grammar.proofs.Machine.{Place, Context, below, exponent, factored};
-ghost use Rattle.theory_line.specs.Exprs.{LeavesFit};
-ghost use Rattle.theory_line.specs.Reading.{Parses, reading};
+ghost use Rattle.theory_line.specs.Exprs.{LeavesFit, ParsesBelow, ParsesExponent};
 ghost use Rattle.theory_syntax.specs.Plain.{expr_of};
 ghost use Rattle.theory_tokens.specs.Plain.{plain_tokens};
 
@@ -46,9 +44,7 @@ pub fn fraction<'a>(
 ) -> Result<(Expr, &'a [Token<'a>]), ParseFault>
     requires above { above ≤ bound }
     requires fit { All IsFit (plain_tokens tokens.now) }
-    ensures parses { (p : Place) (o : List Place) (ctx : Context) → Parses expr_of
-        (reading (below above p o ctx) (plain_tokens tokens.now))
-        (λ x rest. reading (factored x p o ctx) rest) tokens.now result }
+    ensures parses { ParsesBelow above tokens.now result }
     ensures fit { LeavesFit result }
 {
     match front(tokens) {
@@ -68,9 +64,7 @@ pub fn raised<'a>(
     tokens: &'a [Token<'a>],
 ) -> Result<(Expr, &'a [Token<'a>]), ParseFault>
     requires fit { All IsFit (plain_tokens tokens.now) }
-    ensures parses { (p : Place) (o : List Place) (ctx : Context) → Parses expr_of
-        (reading (exponent (expr_of base) p o ctx) (plain_tokens tokens.now))
-        (λ x rest. reading (factored x p o ctx) rest) tokens.now result }
+    ensures parses { ParsesExponent (expr_of base) tokens.now result }
     ensures fit { LeavesFit result }
 {
     match front(tokens) {

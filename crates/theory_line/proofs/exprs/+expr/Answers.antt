@@ -21,7 +21,8 @@ some_context = left_of_equation []
 pub bracketed-returns-in_err-inner-clause-parses : goal.bracketed-returns-in_err-inner-clause-parses
 bracketed-returns-in_err-inner-clause-parses t c = λ p o ctx.
     fault_passed expr_of expr_of _ _ (λ x rest. reading (closed x p o ctx) rest) (λ x rest. behind_expr x (p ∷ o) ctx rest)
-    c.args.tokens.now c.args.tokens.now c.in_err-inner.field-0.0 c.from_residual.result c.from_residual.ensures.1 refl (c.in_err-inner.ensures.parses (p ∷ o) ctx)
+    c.args.tokens.now c.args.tokens.now c.in_err-inner.field-0.0 c.from_residual.result c.from_residual.ensures.1 refl
+    (c.in_err-inner.ensures.parses (p ∷ o) ctx)
 
 pub bracketed-returns-in-Some-clause-parses : goal.bracketed-returns-in-Some-clause-parses
 bracketed-returns-in-Some-clause-parses t c = λ p o ctx.
@@ -35,7 +36,8 @@ bracketed-returns-in-Some-clause-fit t c = fit_behind _ _ _ c.in-Some.ensures c.
 pub expr-returns-in_err-all-clause-parses : goal.expr-returns-in_err-all-clause-parses
 expr-returns-in_err-all-clause-parses t c = λ o ctx.
     fault_passed expr_of expr_of _ _ (λ x rest. behind_expr x o ctx rest) (λ x rest. behind_term x c.args.depth o ctx rest)
-    c.args.tokens.now c.args.tokens.now c.in_err-all.field-0.0 c.from_residual.result c.from_residual.ensures.1 refl (c.in_err-all.ensures.parses alone o ctx)
+    c.args.tokens.now c.args.tokens.now c.in_err-all.field-0.0 c.from_residual.result c.from_residual.ensures.1 refl
+    (c.in_err-all.ensures.parses alone o ctx)
 
 pub expr-loop-how-init : goal.expr-loop-how-init
 expr-loop-how-init t c = record {
