@@ -1,5 +1,5 @@
 -- What is told of a part from one state is told from each that reads the same.
-use Rattle.std.proofs.Common.{◌≡◌, suc, ◌≤◌, List, ◌∷◌, length, Result, Ok, Err, sym, ap, subst, ◌∙◌, arith}
+use Rattle.std.proofs.Common.{◌≡◌, suc, ◌≤◌, List, [], ◌∷◌, length, Result, Ok, Err, sym, ap, subst, ◌∙◌, arith}
 use Rattle.std.specs.Borrow.{Bor}
 use Rattle.std.specs.Result.{IsErrAnd}
 use Rattle.std.proofs.lemmas.List.{length-map}
@@ -27,21 +27,20 @@ told_from tree from there behind tokens fewer (Ok (v, rest)) same less told = (s
 told_from tree from there behind tokens fewer (Err (At kind left)) same less told = same ∙ told
 told_from tree from there behind tokens fewer (Err Memory) same less told = tt
 
+-- what is told by a fault, which says nothing of what stands behind
+abbrev Stops : {V T : Type 0} → (V → T) → Reading → ParseFault → Type 0
+Stops tree from fault = Parses tree from (λ x rest. from) [] (Err fault)
+
 -- a fault of a part is one of the whole
-pub fault_from : {V T W U : Type 0} (tree : V → T) (other : W → U) (from there : Reading) (behind : T → List plain.Token → Reading)
-    (ahead : U → List plain.Token → Reading) (tokens fewer : List Token) (fault : ParseFault) → from ≡ there
-    → Parses other there ahead fewer (Err fault) → Parses tree from behind tokens (Err fault)
-fault_from tree other from there behind ahead tokens fewer (At kind left) same told = same ∙ told
-fault_from tree other from there behind ahead tokens fewer Memory same told = tt
+fault_from : {V T : Type 0} (tree : V → T) (from there : Reading) (behind : T → List plain.Token → Reading) (tokens : List Token) (fault : ParseFault)
+    → from ≡ there → Stops tree there fault → Parses tree from behind tokens (Err fault)
+fault_from tree from there behind tokens (At kind left) same told = same ∙ told
+fault_from tree from there behind tokens Memory same told = tt
 
--- what is told of a part by a fault
-abbrev Stops : {V T : Type 0} → (V → T) → Reading → (T → List plain.Token → Reading) → List Token → ParseFault → Type 0
-Stops tree from behind tokens fault = Parses tree from behind tokens (Err fault)
-
--- also where the fault is passed on
-pub fault_passed : {V T W U : Type 0} (tree : V → T) (other : W → U) (from there : Reading) (behind : T → List plain.Token → Reading)
-    (ahead : U → List plain.Token → Reading) (tokens fewer : List Token) (fault : ParseFault) (result : Result (V × Bor (List Token)) ParseFault)
-    → IsErrAnd result (λ e. e ≡ fault) → from ≡ there → Parses other there ahead fewer (Err fault) → Parses tree from behind tokens result
-fault_passed tree other from there behind ahead tokens fewer fault (Ok p) is same told = absurd is
-fault_passed tree other from there behind ahead tokens fewer fault (Err e) is same told =
-    fault_from tree other from there behind ahead tokens fewer e same (subst (Stops other there ahead fewer) (sym is) told)
+-- also where it is passed on
+pub fault_passed : {V T : Type 0} (tree : V → T) (from there : Reading) (behind : T → List plain.Token → Reading) (tokens : List Token) (fault : ParseFault)
+    (result : Result (V × Bor (List Token)) ParseFault) → IsErrAnd result (λ e. e ≡ fault) → from ≡ there → Stops tree there fault
+    → Parses tree from behind tokens result
+fault_passed tree from there behind tokens fault (Ok p) is same told = absurd is
+fault_passed tree from there behind tokens fault (Err e) is same told =
+    fault_from tree from there behind tokens e same (subst (Stops tree there) (sym is) told)
