@@ -1,0 +1,17 @@
+//! The tokens of one line, read as a line of a model or as an edit.
+//!
+//! `parse_line` and `parse_op` give the tree that the tokens spell by the grammar of `theory_grammar`,
+//! or their first fault. Read `parse_line` first.
+#![tactic(auto)]
+
+#[cfg(test)]
+mod expr_tests;
+mod exprs;
+mod fault;
+mod front;
+mod lines;
+mod literals;
+mod nodes;
+
+pub use fault::ParseFault;
+pub use lines::{parse_line, parse_op};

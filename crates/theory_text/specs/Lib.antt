@@ -1,0 +1,3 @@
+pub use Rattle.theory_grammar.specs.TextFault
+pub use Rattle.theory_grammar.specs.Texts
+pub mod Answers
