@@ -22,7 +22,8 @@ took_part h i text took bytes is = (text, ([], append-nil text), took bytes is)
 
 module _ (words : List (List ℕ)) (texts : Texts) (files : FileCounts) (sinks : SinkCounts) where
   -- the line that was meant, written whole
-  errors_as_meant : (meant : Status) (line : List ℕ) (err err' : Option (List ℕ)) → IsCause words texts files sinks meant → IsErrLine words texts meant line → Took err err' line →
+  errors_as_meant : (meant : Status) (line : List ℕ) (err err' : Option (List ℕ)) → IsCause words texts files sinks meant →
+      IsErrLine words texts meant line → Took err err' line →
       IsErrors words texts files sinks meant err err'
   errors_as_meant status.Finished line err err' cause is took = (line, is, took)
   errors_as_meant status.NoCommand line err err' cause is took = (line, is, took)
@@ -32,7 +33,8 @@ module _ (words : List (List ℕ)) (texts : Texts) (files : FileCounts) (sinks :
   errors_as_meant status.NoMemory line err err' cause is took = (line, is, took)
 
   -- the line of a stop is that of the status that it means
-  line_of_stop : (file : List ℕ) (stop : Stop) (replies : List Reply) (out out' : Option (List ℕ)) → IsCommand words file → IsStop texts file files replies out out' sinks.out_before sinks.out_now (Err stop) →
+  line_of_stop : (file : List ℕ) (stop : Stop) (replies : List Reply) (out out' : Option (List ℕ)) → IsCommand words file →
+      IsStop texts file files replies out out' sinks.out_before sinks.out_now (Err stop) →
       IsErrLine words texts (meant_by stop) (stop_line file stop)
   line_of_stop file (Refused r) replies out out' command s = (file, refusal_text r, command, s.0, refl)
   line_of_stop file Unread replies out out' command s = (file, command, refl)
@@ -48,7 +50,8 @@ module _ (words : List (List ℕ)) (texts : Texts) (files : FileCounts) (sinks :
     cause : IsCause words texts files sinks meant
 
   -- want of memory may come in place of each
-  wanting : (file : List ℕ) (stop : Stop) (replies : List Reply) (out out' : Option (List ℕ)) → IsCommand words file → IsStop texts file files replies out out' sinks.out_before sinks.out_now (Err stop) →
+  wanting : (file : List ℕ) (stop : Stop) (replies : List Reply) (out out' : Option (List ℕ)) → IsCommand words file →
+      IsStop texts file files replies out out' sinks.out_before sinks.out_now (Err stop) →
       (stop ≡ Unwritten → ⊥) → Meant replies out out' status.NoMemory
   wanting file (Refused r) replies out out' command (refused, empty, told) written =
       let took : Took out out' (replies_text replies) = subst (λ (rs : List Reply). Took out out' (replies_text rs)) (sym empty) told.took in
@@ -62,20 +65,34 @@ module _ (words : List (List ℕ)) (texts : Texts) (files : FileCounts) (sinks :
       record { check = of; check_cut = of; output = told.took; output_cut = took_part out out' (replies_text replies) told.took; cause = (file, command) }
 
   -- each stop means its status
-  meant_of : (file : List ℕ) (stop : Stop) (replies : List Reply) (out out' : Option (List ℕ)) → IsCommand words file → IsStop texts file files replies out out' sinks.out_before sinks.out_now (Err stop) →
+  meant_of : (file : List ℕ) (stop : Stop) (replies : List Reply) (out out' : Option (List ℕ)) → IsCommand words file →
+      IsStop texts file files replies out out' sinks.out_before sinks.out_now (Err stop) →
       Meant replies out out' (meant_by stop)
   meant_of file (Refused r) replies out out' command (refused, empty, told) =
       let took : Took out out' (replies_text replies) = subst (λ (rs : List Reply). Took out out' (replies_text rs)) (sym empty) told.took in
-      record { check = empty; check_cut = inl empty; output = took; output_cut = took_part out out' (replies_text replies) took; cause = (file, refusal_text r, command, refused) }
+      record {
+        check = empty;
+        check_cut = inl empty;
+        output = took;
+        output_cut = took_part out out' (replies_text replies) took;
+        cause = (file, refusal_text r, command, refused);
+      }
   meant_of file Unread replies out out' command (failed, empty, told) =
       let took : Took out out' (replies_text replies) = subst (λ (rs : List Reply). Took out out' (replies_text rs)) (sym empty) told.took in
-      record { check = empty; check_cut = inl empty; output = took; output_cut = took_part out out' (replies_text replies) took; cause = (file, command, failed) }
+      record {
+        check = empty;
+        check_cut = inl empty;
+        output = took;
+        output_cut = took_part out out' (replies_text replies) took;
+        cause = (file, command, failed);
+      }
   meant_of file Unwritten replies out out' command (made, cut) =
       record { check = inr (file, command, made); check_cut = inr (file, command, made); output = cut.part; output_cut = cut.part; cause = inl cut.rose }
   meant_of file NoMemory replies out out' command s = wanting file NoMemory replies out out' command s (λ e. absurd (cc))
 
   -- the line is written, or a beginning of it
-  written_run : (file : List ℕ) (meant : Status) (line : List ℕ) (replies : List Reply) (out out' err err' : Option (List ℕ)) (ended : Status) → IsErrLine words texts meant line → Meant replies out out' meant →
+  written_run : (file : List ℕ) (meant : Status) (line : List ℕ) (replies : List Reply) (out out' err err' : Option (List ℕ)) (ended : Status) →
+      IsErrLine words texts meant line → Meant replies out out' meant →
       IsWritten meant line err err' sinks.err_before sinks.err_now ended → IsRun words texts files sinks replies out out' err err' ended
   written_run file meant line replies out out' err err' ended is m written =
       ⊎_elim
@@ -89,12 +106,16 @@ module _ (words : List (List ℕ)) (texts : Texts) (files : FileCounts) (sinks :
       IsStop texts file files replies out out' sinks.out_before sinks.out_now (Err stop) → Reports file stop err err' sinks.err_before sinks.err_now ended →
       IsCommand words file → IsRun words texts files sinks replies out out' err err' ended
   reported_run file stop replies out out' err err' ended s r command =
+      let line = line_of_stop file stop replies out out' command s in
+      let meant = meant_of file stop replies out out' command s in
       ⊎_elim
-      (λ written. written_run file (meant_by stop) (stop_line file stop) replies out out' err err' ended (line_of_stop file stop replies out out' command s) (meant_of file stop replies out out' command s) written)
-      (λ lacking. written_run file status.NoMemory no_memory_line replies out out' err err' ended refl (wanting file stop replies out out' command s lacking.0) lacking.1) r
+      (λ written. written_run file (meant_by stop) (stop_line file stop) replies out out' err err' ended line meant written)
+      (λ lacking. written_run file status.NoMemory no_memory_line replies out out' err err' ended refl
+      (wanting file stop replies out out' command s lacking.0) lacking.1) r
 
   -- a run whose words are no command
-  pub no_command_run : (line : List ℕ) (replies : List Reply) (out err err' : Option (List ℕ)) (ended : Status) → ((file : List ℕ) → ¬ IsCommand words file) → replies ≡ [] → IsErrLine words texts status.NoCommand line →
+  pub no_command_run : (line : List ℕ) (replies : List Reply) (out err err' : Option (List ℕ)) (ended : Status) →
+      ((file : List ℕ) → ¬ IsCommand words file) → replies ≡ [] → IsErrLine words texts status.NoCommand line →
       IsWritten status.NoCommand line err err' sinks.err_before sinks.err_now ended → IsRun words texts files sinks replies out out err err' ended
   no_command_run line replies out err err' ended none empty is written =
       let took : Took out out (replies_text replies) = subst (λ (rs : List Reply). Took out out (replies_text rs)) (sym empty) (took_nothing out) in
@@ -102,7 +123,8 @@ module _ (words : List (List ℕ)) (texts : Texts) (files : FileCounts) (sinks :
       (record { check = empty; check_cut = inl empty; output = took; output_cut = took_part out out (replies_text replies) took; cause = none }) written
 
 -- two words
-pub two_words : {X : Type 0} (bytes : X → List ℕ) (words : List X) (a b : X) → length words ≡ 2 → a ≡ get_or words 0 a → b ≡ get_or words 1 b → map bytes words ≡ bytes a ∷ bytes b ∷ []
+pub two_words : {X : Type 0} (bytes : X → List ℕ) (words : List X) (a b : X) → length words ≡ 2 →
+    a ≡ get_or words 0 a → b ≡ get_or words 1 b → map bytes words ≡ bytes a ∷ bytes b ∷ []
 two_words bytes [] a b two first second = absurd (omega arith)
 two_words bytes (x ∷ []) a b two first second = absurd (omega arith)
 two_words bytes (x ∷ y ∷ []) a b two first second = ap (λ z. bytes z ∷ bytes y ∷ []) (sym first) ∙ ap (λ z. bytes a ∷ bytes z ∷ []) (sym second)

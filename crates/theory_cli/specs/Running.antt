@@ -89,7 +89,8 @@ Reports file stop held held' faults faults' ended =
     ⊎ ((stop ≢ Unwritten) × IsWritten status.NoMemory no_memory_line held held' faults faults' ended)
 
 -- the clauses of a whole run
-pub record IsRun (words : List (List ℕ)) (texts : Texts) (files : FileCounts) (sinks : SinkCounts) (replies : List Reply) (out out' err err' : Option (List ℕ)) (ended : Status) : Type 0 where
+pub record IsRun (words : List (List ℕ)) (texts : Texts) (files : FileCounts) (sinks : SinkCounts)
+    (replies : List Reply) (out out' err err' : Option (List ℕ)) (ended : Status) : Type 0 where
   pub check : IsCheck words texts ended replies
   pub output : IsOutput ended out out' (replies_text replies)
   pub cause : IsCause words texts files sinks ended

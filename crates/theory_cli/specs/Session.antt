@@ -55,7 +55,8 @@ AreReplies model x rows (first ∷ answers) =
 abbrev pub AreFirstReplies : Name → Name → List Line → List Reply → Type 0
 AreFirstReplies model x rows [] = Unit {0}
 AreFirstReplies model x rows (first ∷ answers) =
-    IsCreation model first × ((asked : List (Name × Claim)) × (more : List (Name × Claim)) × (asked ++ more ≡ claims_of rows) × AreAnswers model x (assumptions_of rows) asked answers)
+    IsCreation model first
+    × ((asked : List (Name × Claim)) × (more : List (Name × Claim)) × (asked ++ more ≡ claims_of rows) × AreAnswers model x (assumptions_of rows) asked answers)
 
 -- no half is left open, and no region is told
 pub record IsClosedAnswer (a : Answer) : Type 0 where
