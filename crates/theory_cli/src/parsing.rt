@@ -1,4 +1,4 @@
-ghost use Rattle.std.specs.Prelude.{◌≡◌, ◌⊎◌, ℕ, List, Some, Err};
+ghost use Rattle.std.specs.Prelude.{◌≡◌, ◌⊎◌, ℕ, List, Some};
 ghost use Rattle.theory_meaning.specs.declared.words.ModelKind.TheVariants as model_kind;
 ghost use Rattle.theory_meaning.specs.ModelFault.{model_fault};
 ghost use Rattle.theory_meaning.specs.Text as plain;
@@ -18,7 +18,7 @@ use theory_one_variable::{NotOneVariable, Text, one_variable};
 use theory_syntax::Numbered;
 use theory_text::{TextError, TextKind, read_text};
 
-/// The one-variable text that the bytes spell; faults of the text come before those of the model.
+/// The text that the bytes spell; its own faults come before those of its model.
 pub fn parse(alloc: Global, bytes: &[u8]) -> Result<Text, Stop>
     ensures { IsParsed bytes.now result }
 {

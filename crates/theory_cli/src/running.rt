@@ -1,4 +1,4 @@
-ghost use Rattle.std.specs.Prelude.{◌≡◌, ◌≢◌, List, ℕ, [], map, MatchOption, string_bytes};
+ghost use Rattle.std.specs.Prelude.{◌≡◌, List, ℕ, [], map, MatchOption, string_bytes};
 ghost use Rattle.theory_cli.specs.Ending.{IsCommand};
 ghost use Rattle.theory_cli.specs.Running.{ReadsFile, IsStop, IsRun};
 
@@ -25,7 +25,7 @@ pub enum Stop {
     NoMemory,
 }
 
-/// The greatest number of bytes of a text; a read gives one more, so that a longer text shows.
+/// The greatest number of bytes of a text; a read gives one more.
 const TEXT_LIMIT: usize = 65_536;
 
 /// The file of the command, where the words are the command.
