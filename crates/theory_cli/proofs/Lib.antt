@@ -1,2 +1,4 @@
 pub mod SessionLemmas
 pub mod RunLemmas
+pub mod RefusalLemmas
+pub mod CompleteLemmas

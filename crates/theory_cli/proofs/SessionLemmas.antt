@@ -1,9 +1,9 @@
 -- Replies that are told one after another.
-use Rattle.std.proofs.Common.{◌≡◌, ℕ, suc, ◌+◌, ◌<◌, ◌≤◌, ◌-◌, ◌^◌, min, List, [], ◌∷◌, ◌++◌, length, get_or, drop, Option, Some, None, Result, Ok, Err, refl, sym, ap, ◌∙◌, subst, arith, append_assoc, add-one, drop-cons}
+use Rattle.std.proofs.Common.{◌≡◌, ℕ, suc, ◌+◌, ◌<◌, ◌≤◌, ◌-◌, ◌^◌, min, List, [], ◌∷◌, ◌++◌, length, get_or, drop, Option, Some, Ok, Err, refl, sym, ap, ◌∙◌, subst, arith, append_assoc, add-one, drop-cons}
 use Rattle.std.proofs.lemmas.List.{append-nil, drop_all}
 use Rattle.theory_meaning.specs.Point.{Name}
 use Rattle.theory_meaning.specs.Tree.{Claim, Line}
-use Rattle.theory_meaning.specs.Faults.{Rose, Begins, Took, TookPart}
+use Rattle.theory_meaning.specs.Faults.{Took, TookPart}
 use Rattle.theory_cli.specs.declared.reply.Reply.{Reply}
 use Rattle.theory_cli.specs.declared.reply.Reply.TheVariants as reply
 use Rattle.theory_cli.specs.declared.session.Halt.{Halt}
@@ -13,7 +13,7 @@ use Rattle.theory_one_variable.specs.declared.text.Role.TheVariants as role
 use Rattle.theory_one_variable.specs.declared.text.Row.{Row}
 use Rattle.theory_one_variable.specs.OneVariable.{assumptions_of, claims_of}
 use Rattle.theory_one_variable.specs.Rows.{atom_claim, line_as, row_line, row_lines}
-use Rattle.theory_cli.specs.Session.{IsAnswer, AreAnswers, IsCreation, AreReplies, AreFirstReplies, reply_text, replies_text}
+use Rattle.theory_cli.specs.Session.{AreAnswers, IsCreation, AreReplies, AreFirstReplies, reply_text, replies_text}
 use Rattle.theory_cli.specs.Telling.{IsTold, IsCutOff, TellsOne, IsAnswering, Answers}
 
 -- one text and then another

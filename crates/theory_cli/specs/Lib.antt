@@ -1,8 +1,12 @@
+pub use Rattle.theory_meaning.specs.Edit
 pub use Rattle.theory_meaning.specs.Faults
+pub use Rattle.theory_meaning.specs.ModelFault
+pub use Rattle.theory_grammar.specs.Texts
 pub use Rattle.theory_edge.specs.Files
 pub use Rattle.theory_one_variable.specs.OneVariable
-pub use Rattle.theory_reader.specs.Spelled
+pub use Rattle.theory_one_variable.specs.ReadLines
 pub mod Printed
+pub mod Refusal
 pub mod Session
 pub mod Ending
 pub mod Telling

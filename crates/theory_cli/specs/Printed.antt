@@ -1,9 +1,9 @@
 -- The printed form of replies. docs/PROTOCOL.md has it in words.
-use Rattle.std.specs.Prelude.{ℕ, zero, suc, ◌+◌, pos, List, [], ◌∷◌, ◌++◌, codes, decimal}
+use Rattle.std.specs.Prelude.{ℕ, zero, suc, ◌+◌, List, [], ◌∷◌, ◌++◌, codes, decimal}
 use Rattle.std.specs.Fmt.{signed_decimal}
 use Rattle.theory_meaning.specs.declared.words.Verdict.{Verdict}
 use Rattle.theory_meaning.specs.declared.words.Verdict.TheVariants.{Holds, Fails, Contradictory, Mixed, Undecided}
-use Rattle.theory_meaning.specs.Fraction.{Fraction, den}
+use Rattle.theory_meaning.specs.Fraction.{Fraction}
 use Rattle.theory_meaning.specs.Point.{Name, Point, value_at}
 use Rattle.theory_meaning.specs.Half.{Half, found, found_wide, absent, left}
 

@@ -1,17 +1,14 @@
 -- The replies of one `check`: the model is created, and each of its claims is asked.
-use Rattle.std.specs.Prelude.{◌≡◌, ℕ, List, [], ◌∷◌, ◌++◌, None, Option}
+use Rattle.std.specs.Prelude.{◌≡◌, ℕ, List, [], ◌∷◌, ◌++◌, None}
 use Rattle.theory_meaning.specs.Point.{Name}
 use Rattle.theory_meaning.specs.Tree.{Claim, Line}
-use Rattle.theory_meaning.specs.Half.{Half, IsRightHalf, IsClosedHalf}
+use Rattle.theory_meaning.specs.Half.{IsRightHalf, IsClosedHalf}
 use Rattle.theory_meaning.specs.Verdict.{verdict_of_halves, IsRightVerdict}
 use Rattle.theory_meaning.specs.Truth.{Meets}
 use Rattle.theory_meaning.specs.Question.{IsTrueAt}
 use Rattle.theory_method.specs.WrittenHalf.{IsWrittenHalf}
 use Rattle.theory_verdict.specs.declared.answer.Answer.{Answer}
-use Rattle.theory_verdict.specs.declared.answer.Region.{Region}
-use Rattle.theory_verdict.specs.declared.half.Half as answered
 use Rattle.theory_verdict.specs.Plain.{half_of}
-use Rattle.theory_cli.specs.declared.reply.Created.{Created}
 use Rattle.theory_cli.specs.declared.reply.Reply.{Reply}
 use Rattle.theory_cli.specs.declared.reply.Reply.TheVariants as reply
 use Rattle.theory_one_variable.specs.OneVariable.{assumptions_of, claims_of, example_sentence, counter_sentence}
@@ -58,7 +55,8 @@ AreReplies model x rows (first ∷ answers) =
 abbrev pub AreFirstReplies : Name → Name → List Line → List Reply → Type 0
 AreFirstReplies model x rows [] = Unit {0}
 AreFirstReplies model x rows (first ∷ answers) =
-    IsCreation model first × ((asked : List (Name × Claim)) × (more : List (Name × Claim)) × (asked ++ more ≡ claims_of rows) × AreAnswers model x (assumptions_of rows) asked answers)
+    IsCreation model first
+    × ((asked : List (Name × Claim)) × (more : List (Name × Claim)) × (asked ++ more ≡ claims_of rows) × AreAnswers model x (assumptions_of rows) asked answers)
 
 -- no half is left open, and no region is told
 pub record IsClosedAnswer (a : Answer) : Type 0 where

@@ -34,11 +34,14 @@ IsAnswering model x rows asked (reply.Answered a) = IsAnswer model x (assumption
 -- one reply with this fact is told, or none is
 abbrev pub TellsOne : (Reply → Type 0) → List Reply → List Reply → Option (List ℕ) → Option (List ℕ) → ℕ → ℕ → Result (Unit {0}) Halt → Type 0
 TellsOne IsMet old new held held' faults faults' (Ok _) = (r : Reply) × IsMet r × (new ≡ old ++ r ∷ []) × IsTold (reply_text r) held held' faults faults'
-TellsOne IsMet old new held held' faults faults' (Err Unwritten) = (r : Reply) × IsMet r × (new ≡ old ++ r ∷ []) × IsCutOff (reply_text r) held held' faults faults'
+TellsOne IsMet old new held held' faults faults' (Err Unwritten) =
+    (r : Reply) × IsMet r × (new ≡ old ++ r ∷ []) × IsCutOff (reply_text r) held held' faults faults'
 TellsOne IsMet old new held held' faults faults' (Err NoMemory) = (new ≡ old) × IsTold [] held held' faults faults'
 
 -- all replies to a text, or a beginning of them, with their prints
 abbrev pub Answers : Name → Name → List Line → List Reply → Option (List ℕ) → Option (List ℕ) → ℕ → ℕ → Result (Unit {0}) Halt → Type 0
 Answers model x rows replies held held' faults faults' (Ok _) = AreReplies model x rows replies × IsTold (replies_text replies) held held' faults faults'
-Answers model x rows replies held held' faults faults' (Err Unwritten) = AreFirstReplies model x rows replies × IsCutOff (replies_text replies) held held' faults faults'
-Answers model x rows replies held held' faults faults' (Err NoMemory) = AreFirstReplies model x rows replies × IsTold (replies_text replies) held held' faults faults'
+Answers model x rows replies held held' faults faults' (Err Unwritten) =
+    AreFirstReplies model x rows replies × IsCutOff (replies_text replies) held held' faults faults'
+Answers model x rows replies held held' faults faults' (Err NoMemory) =
+    AreFirstReplies model x rows replies × IsTold (replies_text replies) held held' faults faults'

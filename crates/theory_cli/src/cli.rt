@@ -1,6 +1,6 @@
 ghost use Rattle.std.specs.Prelude.{◌≡◌, [], map, string_bytes};
 ghost use Rattle.theory_cli.specs.Session.{replies_text};
-ghost use Rattle.theory_cli.specs.Ending.{IsCheck, IsOutput, IsCause, IsErrors};
+ghost use Rattle.theory_cli.specs.Ending.{IsCheck, IsOutput, IsCause, IsErrors, IsComplete};
 ghost use Rattle.theory_cli.specs.Running.{IsRun};
 
 use crate::reply::Replies;
@@ -35,7 +35,11 @@ pub fn theory<F: Files, O: Sink, E: Sink>(
 
     // Each status has its cause, and its line on err.
     ensures status { IsCause (map string_bytes words.now) (F.texts files.old)
-        record { asking = F.asking files.new; faults = F.fault_count files.new }
+        record {
+          asking = F.asking files.new;
+          before = F.fault_count files.old;
+          now = F.fault_count files.new;
+        }
         record {
           out_before = O.fault_count out.old;
           out_now = O.fault_count out.new;
@@ -44,7 +48,11 @@ pub fn theory<F: Files, O: Sink, E: Sink>(
         }
         result.status }
     ensures errors { IsErrors (map string_bytes words.now) (F.texts files.old)
-        record { asking = F.asking files.new; faults = F.fault_count files.new }
+        record {
+          asking = F.asking files.new;
+          before = F.fault_count files.old;
+          now = F.fault_count files.new;
+        }
         record {
           out_before = O.fault_count out.old;
           out_now = O.fault_count out.new;
@@ -52,6 +60,21 @@ pub fn theory<F: Files, O: Sink, E: Sink>(
           err_now = E.fault_count err.new;
         }
         result.status (E.held err.old) (E.held err.new) }
+
+    // Where no end fails a one-variable text is answered, and any other one is refused.
+    ensures complete { IsComplete (map string_bytes words.now) (F.texts files.old)
+        record {
+          asking = F.asking files.new;
+          before = F.fault_count files.old;
+          now = F.fault_count files.new;
+        }
+        record {
+          out_before = O.fault_count out.old;
+          out_now = O.fault_count out.new;
+          err_before = E.fault_count err.old;
+          err_now = E.fault_count err.new;
+        }
+        result.status }
 {
     let mut replies = Replies::new(alloc);
     let status = run_words(alloc, words, files, out, err, &mut replies);
@@ -68,7 +91,11 @@ fn run_words<F: Files, O: Sink, E: Sink>(
 ) -> Status
     requires { replies.old ≡ [] }
     ensures { IsRun (map string_bytes words.now) (F.texts files.old)
-        record { asking = F.asking files.new; faults = F.fault_count files.new }
+        record {
+          asking = F.asking files.new;
+          before = F.fault_count files.old;
+          now = F.fault_count files.new;
+        }
         record {
           out_before = O.fault_count out.old;
           out_now = O.fault_count out.new;

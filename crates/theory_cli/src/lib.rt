@@ -1,13 +1,16 @@
 //! The top call of the program, over ends that are handed in.
 //!
 //! `theory` reads the file that the words name, answers each claim of its text, and writes the
-//! replies. Its clauses say which replies those are, what is written, and what is the cause of each
-//! status; their words are in `specs/Ending.antt` and `specs/Session.antt`. Read `theory` first.
+//! replies, or says why the text or its model is refused. Its clauses say which replies those are,
+//! what is written, what is the cause of each status, and that one-variable texts are answered; their
+//! words are in `specs/Ending.antt`, `specs/Refusal.antt`, `specs/Session.antt`. Read `theory` first.
 #![tactic(auto)]
 
 mod answer;
 mod cli;
+mod parsing;
 mod printing;
+mod refusal;
 mod reply;
 mod report;
 mod running;

@@ -1,8 +1,8 @@
-ghost use Rattle.std.specs.Prelude.{◌≡◌, ◌++◌, IfOk, codes, decimal, string_bytes};
+ghost use Rattle.std.specs.Prelude.{◌≡◌, ◌++◌, IfOk, codes, string_bytes};
 ghost use Rattle.theory_cli.specs.Printed.{line_end};
-ghost use Rattle.theory_cli.specs.Running.{IsWritten, Reports};
+ghost use Rattle.theory_cli.specs.Running.{IsWritten, Reports, refusal_text};
 
-use crate::printing::add_number;
+use crate::refusal::{Refusal, add_refusal};
 use crate::running::Stop;
 use crate::status::Status;
 use std::alloc::Global;
@@ -15,7 +15,7 @@ pub fn report<E: Sink>(alloc: Global, file: &String, stop: Stop, err: &mut E) ->
         (E.fault_count err.old) (E.fault_count err.new) result }
 {
     match stop {
-        Stop::Refused(line) => match refusal(alloc, file, line) {
+        Stop::Refused(refusal) => match refused(alloc, file, refusal) {
             Ok(text) => write_line(text.as_slice(), Status::Refused, err),
             Err(_) => report_no_memory(err),
         },
@@ -58,14 +58,13 @@ fn write_line<E: Sink>(line: &[u8], meant: Status, err: &mut E) -> Status
     }
 }
 
-fn refusal(alloc: Global, file: &String, line: u32) -> Result<Bytes, NoMemory>
+fn refused(alloc: Global, file: &String, refusal: Refusal) -> Result<Bytes, NoMemory>
     ensures { IfOk result (λ text. text ≡
-        string_bytes file.now ++ codes ":" ++ decimal line ++ codes ": NotYet" ++ line_end) }
+        string_bytes file.now ++ refusal_text refusal ++ line_end) }
 {
     let mut text = Bytes::from_slice(alloc, file.as_bytes())?;
-    text.extend(b":")?;
-    add_number(alloc, &mut text, u64::from(line))?;
-    text.extend(b": NotYet\n")?;
+    add_refusal(alloc, &mut text, refusal)?;
+    text.extend(b"\n")?;
     Ok(text)
 }
 

@@ -1,7 +1,9 @@
-ghost use Rattle.std.specs.Prelude.{◌≡◌, ◌≢◌, List, ℕ, [], map, MatchOption, string_bytes};
-ghost use Rattle.theory_cli.specs.Ending.{FilesAfter, IsCommand};
-ghost use Rattle.theory_cli.specs.Running.{IsParsed, ReadsFile, IsStop, IsRun};
+ghost use Rattle.std.specs.Prelude.{◌≡◌, List, ℕ, [], map, MatchOption, string_bytes};
+ghost use Rattle.theory_cli.specs.Ending.{IsCommand};
+ghost use Rattle.theory_cli.specs.Running.{ReadsFile, IsStop, IsRun};
 
+use crate::parsing::parse;
+use crate::refusal::Refusal;
 use crate::reply::Replies;
 use crate::report::report;
 use crate::session::{Halt, reply_to};
@@ -9,14 +11,12 @@ use crate::status::Status;
 use std::alloc::Global;
 use theory_edge::{EndFault, Files, Sink};
 use theory_one_variable::Text;
-use theory_points::Bytes;
-use theory_reader::{ReadFault, read_text};
 
 /// Why a check of a file stops before its end.
 #[derive(Clone, Copy, Debug, PartialEq, Eq)]
 pub enum Stop {
-    /// The text is refused, as seen at this line, from 1.
-    Refused(u32),
+    /// The text or its model is refused, or not decided yet.
+    Refused(Refusal),
     /// The file can't be read.
     Unread,
     /// A write to out failed.
@@ -25,7 +25,7 @@ pub enum Stop {
     NoMemory,
 }
 
-/// The greatest number of bytes of a text.
+/// The greatest number of bytes of a text; a read gives one more.
 const TEXT_LIMIT: usize = 65_536;
 
 /// The file of the command, where the words are the command.
@@ -52,7 +52,11 @@ pub fn run<F: Files, O: Sink, E: Sink>(
     requires { replies.old ≡ [] }
     ensures { (words : List (List ℕ)) → IsCommand words (string_bytes file.now) →
         IsRun words (F.texts files.old)
-        record { asking = F.asking files.new; faults = F.fault_count files.new }
+        record {
+          asking = F.asking files.new;
+          before = F.fault_count files.old;
+          now = F.fault_count files.new;
+        }
         record {
           out_before = O.fault_count out.old;
           out_now = O.fault_count out.new;
@@ -76,7 +80,11 @@ fn check<F: Files, O: Sink>(
 ) -> Result<(), Stop>
     requires { replies.old ≡ [] }
     ensures { IsStop (F.texts files.old) (string_bytes file.now)
-        record { asking = F.asking files.new; faults = F.fault_count files.new }
+        record {
+          asking = F.asking files.new;
+          before = F.fault_count files.old;
+          now = F.fault_count files.new;
+        }
         replies.new (O.held out.old) (O.held out.new) (O.fault_count out.old)
         (O.fault_count out.new) result }
 {
@@ -93,25 +101,19 @@ fn check<F: Files, O: Sink>(
 
 fn read_file<F: Files>(alloc: Global, file: &String, files: &mut F) -> Result<Text, Stop>
     ensures { ReadsFile (F.texts files.old) (string_bytes file.now)
-        record { asking = F.asking files.new; faults = F.fault_count files.new } result }
+        record {
+          asking = F.asking files.new;
+          before = F.fault_count files.old;
+          now = F.fault_count files.new;
+        } result }
 {
     let name = match file.clone() {
         Ok(name) => name,
         Err(_) => return Err(Stop::NoMemory),
     };
     match files.read(alloc, name, TEXT_LIMIT) {
-        Ok(bytes) => text_of(alloc, &bytes),
+        Ok(bytes) => parse(alloc, bytes.as_slice()),
         Err(EndFault::Failed) => Err(Stop::Unread),
         Err(EndFault::NoMemory) => Err(Stop::NoMemory),
-    }
-}
-
-fn text_of(alloc: Global, bytes: &Bytes) -> Result<Text, Stop>
-    ensures { IsParsed bytes.now result }
-{
-    match read_text(alloc, bytes.as_slice()) {
-        Ok(text) => Ok(text),
-        Err(ReadFault::NotYet(line)) => Err(Stop::Refused(line)),
-        Err(ReadFault::Memory) => Err(Stop::NoMemory),
     }
 }

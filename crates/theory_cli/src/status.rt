@@ -5,7 +5,7 @@ pub enum Status {
     Finished = 0,
     /// The words are no command.
     NoCommand = 2,
-    /// The text of the file is refused.
+    /// The text of the file or its model is refused, or not decided yet.
     Refused = 3,
     /// The file can't be read.
     Unread = 5,

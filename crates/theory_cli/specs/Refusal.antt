@@ -1,0 +1,72 @@
+-- Why the bytes of a file aren't answered, and what is told of it behind the file's name. docs/PROTOCOL.md has it in words.
+use Rattle.std.specs.Prelude.{◌≡◌, ℕ, List, [], ◌∷◌, ◌++◌, Some, codes, decimal}
+use Rattle.theory_meaning.specs.declared.words.ModelKind.{ModelKind}
+use Rattle.theory_meaning.specs.declared.words.ModelKind.TheVariants as model
+use Rattle.theory_meaning.specs.Edit.{IsModel}
+use Rattle.theory_meaning.specs.ModelFault as meaning
+use Rattle.theory_meaning.specs.ModelFault.{ModelFault}
+use Rattle.theory_meaning.specs.Point.{Name}
+use Rattle.theory_meaning.specs.Text.{Numbered}
+use Rattle.theory_meaning.specs.Tree.{Line}
+use Rattle.theory_grammar.specs.declared.text_kind.TextKind.{TextKind}
+use Rattle.theory_grammar.specs.declared.text_kind.TextKind.TheVariants as text
+use Rattle.theory_grammar.specs.TextFault.{Fault}
+use Rattle.theory_grammar.specs.Texts.{SpellsLines, IsFirstFault}
+use Rattle.theory_one_variable.specs.OneVariable.{IsOneVariable}
+use Rattle.theory_one_variable.specs.ReadLines.{unnumbered, IsNotYet}
+
+-- the printed name of a kind of fault of a text; want of memory is no fault, and is never printed so
+abbrev pub text_kind_name : TextKind → List ℕ
+text_kind_name text.TooLong = codes "TooLong"
+text_kind_name text.NotUtf8 = codes "NotUtf8"
+text_kind_name text.BadToken = codes "BadToken"
+text_kind_name text.Unexpected = codes "Unexpected"
+text_kind_name text.LiteralWide = codes "LiteralWide"
+text_kind_name text.ZeroBelow = codes "ZeroBelow"
+text_kind_name text.Exponent = codes "Exponent"
+text_kind_name text.Deep = codes "Deep"
+text_kind_name text.Memory = codes "Memory"
+
+-- the printed name of a kind of fault of a model
+abbrev pub model_kind_name : ModelKind → List ℕ
+model_kind_name model.ModelLine = codes "ModelLine"
+model_kind_name model.KeyTwice = codes "KeyTwice"
+model_kind_name model.UnknownName = codes "UnknownName"
+model_kind_name model.BadArgument = codes "BadArgument"
+model_kind_name model.NoShift = codes "NoShift"
+model_kind_name model.NotParam = codes "NotParam"
+model_kind_name model.TooManySymbols = codes "TooManySymbols"
+model_kind_name model.TooManyLines = codes "TooManyLines"
+model_kind_name model.Memory = codes "Memory"
+
+-- a fault of a text: its line, its column and its kind
+abbrev pub text_fault_text : Fault → List ℕ
+text_fault_text f = codes ":" ++ decimal f.line ++ codes ":" ++ decimal f.column ++ codes ": " ++ text_kind_name f.kind
+
+-- a fault of a model: its line and its kind
+abbrev pub model_fault_text : ModelFault → List ℕ
+model_fault_text f = codes ":" ++ decimal f.at ++ codes ": " ++ model_kind_name f.kind
+
+-- a model that isn't decided yet, with a line
+abbrev pub not_yet_text : ℕ → List ℕ
+not_yet_text n = codes ":" ++ decimal n ++ codes ": NotYet"
+
+-- the number of the last line, or 1 for none
+abbrev pub last_number : List Numbered → ℕ
+last_number [] = 1
+last_number (line ∷ []) = line.at
+last_number (line ∷ next ∷ lines) = last_number (next ∷ lines)
+
+-- why these bytes are refused, by what is told of it: the first fault of the text, where there is none
+-- that of the model, and where there is none of these that the model is no one-variable text
+pub data IsRefusal (bytes : List ℕ) : List ℕ → Type 0 where
+  text_fault : (f : Fault) → IsFirstFault bytes f → IsRefusal bytes (text_fault_text f)
+  model_fault : (lines : List Numbered) (f : ModelFault) → SpellsLines bytes lines → meaning.model_fault lines ≡ Some f → IsRefusal bytes (model_fault_text f)
+  not_yet : (lines : List Numbered) (n : ℕ) → SpellsLines bytes lines → IsModel lines → IsNotYet lines (last_number lines) n → IsRefusal bytes (not_yet_text n)
+
+-- the bytes spell a model without a fault, and it is this one-variable text
+pub record SpellsOneVariable (bytes : List ℕ) (model x : Name) (rows : List Line) : Type 0 where
+  pub lines : List Numbered
+  pub spelled : SpellsLines bytes lines
+  pub checked : IsModel lines
+  pub one_variable : IsOneVariable model x rows (unnumbered lines)

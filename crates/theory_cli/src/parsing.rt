@@ -1,0 +1,78 @@
+ghost use Rattle.std.specs.Prelude.{◌≡◌, ◌⊎◌, ℕ, List, Some};
+ghost use Rattle.theory_meaning.specs.declared.words.ModelKind.TheVariants as model_kind;
+ghost use Rattle.theory_meaning.specs.ModelFault.{model_fault};
+ghost use Rattle.theory_meaning.specs.Text as plain;
+ghost use Rattle.theory_grammar.specs.declared.text_kind.TextKind.TheVariants as text_kind;
+ghost use Rattle.theory_grammar.specs.Texts.{SpellsLines, IsFirstFault};
+ghost use Rattle.theory_syntax.specs.Plain.{lines_of};
+ghost use Rattle.theory_model.specs.Checked as checked;
+ghost use Rattle.theory_text.specs.Answers as answers;
+ghost use Rattle.theory_cli.specs.Refusal as refusal;
+ghost use Rattle.theory_cli.specs.Running.{StopsAt, IsParsed};
+
+use crate::refusal::Refusal;
+use crate::running::Stop;
+use std::alloc::Global;
+use theory_model::{Model, ModelFault, ModelKind, check, text_of};
+use theory_one_variable::{NotOneVariable, Text, one_variable};
+use theory_syntax::Numbered;
+use theory_text::{TextError, TextKind, read_text};
+
+/// The text that the bytes spell; its own faults come before those of its model.
+pub fn parse(alloc: Global, bytes: &[u8]) -> Result<Text, Stop>
+    ensures { IsParsed bytes.now result }
+{
+    let lines = match read_text(alloc, bytes) {
+        Ok(lines) => lines,
+        Err(error) => return Err(text_stop(error)),
+    };
+    let model = match check(alloc, lines.as_slice()) {
+        Ok(model) => model,
+        Err(fault) => return Err(model_stop(fault)),
+    };
+    decide(alloc, &model)
+}
+
+fn text_stop(error: TextError) -> Stop
+    ensures { (bytes : List ℕ) →
+        (error.kind ≡ text_kind.Memory) ⊎ IsFirstFault bytes (answers.fault_of error) →
+        StopsAt bytes result }
+{
+    match error.kind {
+        TextKind::Memory => Stop::NoMemory,
+        _ => Stop::Refused(Refusal::Text(error)),
+    }
+}
+
+fn model_stop(fault: ModelFault) -> Stop
+    ensures { (bytes : List ℕ) → (lines : List plain.Numbered) → SpellsLines bytes lines →
+        (fault.kind ≡ model_kind.Memory) ⊎ (model_fault lines ≡ Some (checked.fault_of fault)) →
+        StopsAt bytes result }
+{
+    match fault.kind {
+        ModelKind::Memory => Stop::NoMemory,
+        _ => Stop::Refused(Refusal::Model(fault)),
+    }
+}
+
+// The one-variable text that a checked model is.
+fn decide(alloc: Global, model: &Model) -> Result<Text, Stop>
+    ensures { (bytes : List ℕ) → SpellsLines bytes (lines_of model.now) →
+        IsParsed bytes result }
+{
+    let lines = text_of(model).as_slice();
+    match one_variable(alloc, lines, last_number(lines)) {
+        Ok(text) => Ok(text),
+        Err(NotOneVariable::NotYet(line)) => Err(Stop::Refused(Refusal::NotYet(line))),
+        Err(NotOneVariable::Memory) => Err(Stop::NoMemory),
+    }
+}
+
+fn last_number(lines: &[Numbered]) -> u32
+    ensures { result ≡ refusal.last_number (lines_of lines.now) }
+{
+    match lines.last() {
+        Some(line) => line.at,
+        None => 1,
+    }
+}

@@ -1,4 +1,0 @@
-pub mod ScanLemmas
-pub mod LineLemmas
-pub mod TextLemmas
-pub mod RowLemmas
