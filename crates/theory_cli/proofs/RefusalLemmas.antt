@@ -15,16 +15,7 @@ use Rattle.theory_syntax.specs.Plain.{lines_of}
 use Rattle.theory_one_variable.specs.declared.lines.NotOneVariable.{NotOneVariable}
 use Rattle.theory_one_variable.specs.declared.lines.NotOneVariable.TheVariants.{NotYet}
 use Rattle.theory_one_variable.specs.ReadLines.{IsNotYet, OfNumber}
-use Rattle.theory_cli.specs.Refusal.{IsRefusal, text_fault, model_fault, not_yet, text_fault_text, model_fault_text, not_yet_text, last_number}
-
--- the number of the last line, read off that line
-pub last_number_at : (lines : List Numbered) (n : Numbered) → Some n ≡ slice_get lines (length lines - 1) → n.at ≡ last_number (lines_of lines)
-last_number_at [] n is = absurd (cc)
-last_number_at (m ∷ []) n is = ap (λ (k : Numbered). k.at) (sym (get_or_from_slice_get (m ∷ []) 0 n n (sym is)))
-last_number_at (m ∷ k ∷ lines) n is =
-    let whole : length (m ∷ k ∷ lines) - 1 ≡ suc (length lines) = omega arith in
-    let behind : length lines ≡ length (k ∷ lines) - 1 = omega arith in
-    last_number_at (k ∷ lines) n (is ∙ ap (slice_get (m ∷ k ∷ lines)) whole ∙ ap (slice_get (k ∷ lines)) behind)
+use Rattle.theory_cli.specs.Refusal.{IsRefusal, text_fault, model_fault, not_yet, text_fault_text, model_fault_text, not_yet_text, last_line}
 
 -- a fault of the text that isn't want of memory
 pub refused_text : (bytes : List ℕ) (f : Fault) → (f.kind ≡ text_kind.Memory → ⊥) →
@@ -38,9 +29,9 @@ refused_model bytes lines f spelled no_memory found = ⊎_elim (λ m. absurd (no
 
 -- a model that isn't decided yet, by its lent lines
 pub undecided : (bytes : List ℕ) (lent lines : List Numbered) (last n : ℕ) (judged : NotOneVariable) → lent ≡ lines →
-    last ≡ last_number (lines_of lent) → judged ≡ NotYet n →
+    last ≡ last_line bytes → judged ≡ NotYet n →
     SpellsLines bytes (lines_of lines) → IsModel (lines_of lines) → OfNumber (IsNotYet (lines_of lent) last) judged → IsRefusal bytes (not_yet_text n)
 undecided bytes lent lines last n judged same is told spelled checked of =
     let place : IsNotYet (lines_of lent) last n = subst (OfNumber (IsNotYet (lines_of lent) last)) told of in
-    let here : IsNotYet (lines_of lent) (last_number (lines_of lent)) n = subst (λ (k : ℕ). IsNotYet (lines_of lent) k n) is place in
-    not_yet (lines_of lines) n spelled checked (subst (λ (ls : List Numbered). IsNotYet (lines_of ls) (last_number (lines_of ls)) n) same here)
+    let here : IsNotYet (lines_of lent) (last_line bytes) n = subst (λ (k : ℕ). IsNotYet (lines_of lent) k n) is place in
+    not_yet (lines_of lines) n spelled checked (subst (λ (ls : List Numbered). IsNotYet (lines_of ls) (last_line bytes) n) same here)

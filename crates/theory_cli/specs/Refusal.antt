@@ -1,5 +1,5 @@
 -- Why the bytes of a file aren't answered, and what is told of it behind the file's name. docs/PROTOCOL.md has it in words.
-use Rattle.std.specs.Prelude.{◌≡◌, ℕ, List, [], ◌∷◌, ◌++◌, Some, codes, decimal}
+use Rattle.std.specs.Prelude.{◌≡◌, ℕ, max, List, ◌++◌, Some, length, codes, decimal}
 use Rattle.theory_meaning.specs.declared.words.ModelKind.{ModelKind}
 use Rattle.theory_meaning.specs.declared.words.ModelKind.TheVariants as model
 use Rattle.theory_meaning.specs.Edit.{IsModel}
@@ -10,7 +10,7 @@ use Rattle.theory_meaning.specs.Text.{Numbered}
 use Rattle.theory_meaning.specs.Tree.{Line}
 use Rattle.theory_grammar.specs.declared.text_kind.TextKind.{TextKind}
 use Rattle.theory_grammar.specs.declared.text_kind.TextKind.TheVariants as text
-use Rattle.theory_grammar.specs.TextFault.{Fault}
+use Rattle.theory_grammar.specs.TextFault.{Fault, cut_lines}
 use Rattle.theory_grammar.specs.Texts.{SpellsLines, IsFirstFault}
 use Rattle.theory_one_variable.specs.OneVariable.{IsOneVariable}
 use Rattle.theory_one_variable.specs.ReadLines.{unnumbered, IsNotYet}
@@ -51,18 +51,16 @@ model_fault_text f = codes ":" ++ decimal f.at ++ codes ": " ++ model_kind_name 
 abbrev pub not_yet_text : ℕ → List ℕ
 not_yet_text n = codes ":" ++ decimal n ++ codes ": NotYet"
 
--- the number of the last line, or 1 for none
-abbrev pub last_number : List Numbered → ℕ
-last_number [] = 1
-last_number (line ∷ []) = line.at
-last_number (line ∷ next ∷ lines) = last_number (next ∷ lines)
+-- the number of the last line of a text, or 1 where there is none
+abbrev pub last_line : List ℕ → ℕ
+last_line bytes = max 1 (length (cut_lines bytes))
 
 -- why these bytes are refused, by what is told of it: the first fault of the text, where there is none
 -- that of the model, and where there is none of these that the model is no one-variable text
 pub data IsRefusal (bytes : List ℕ) : List ℕ → Type 0 where
   text_fault : (f : Fault) → IsFirstFault bytes f → IsRefusal bytes (text_fault_text f)
   model_fault : (lines : List Numbered) (f : ModelFault) → SpellsLines bytes lines → meaning.model_fault lines ≡ Some f → IsRefusal bytes (model_fault_text f)
-  not_yet : (lines : List Numbered) (n : ℕ) → SpellsLines bytes lines → IsModel lines → IsNotYet lines (last_number lines) n → IsRefusal bytes (not_yet_text n)
+  not_yet : (lines : List Numbered) (n : ℕ) → SpellsLines bytes lines → IsModel lines → IsNotYet lines (last_line bytes) n → IsRefusal bytes (not_yet_text n)
 
 -- the bytes spell a model without a fault, and it is this one-variable text
 pub record SpellsOneVariable (bytes : List ℕ) (model x : Name) (rows : List Line) : Type 0 where

@@ -1,4 +1,4 @@
-ghost use Rattle.std.specs.Prelude.{◌≡◌, ◌⊎◌, ℕ, List, Some};
+ghost use Rattle.std.specs.Prelude.{◌≡◌, ◌≤◌, ◌⊎◌, ℕ, List, Some, length};
 ghost use Rattle.theory_meaning.specs.declared.words.ModelKind.TheVariants as model_kind;
 ghost use Rattle.theory_meaning.specs.ModelFault.{model_fault};
 ghost use Rattle.theory_meaning.specs.Text as plain;
@@ -13,9 +13,9 @@ ghost use Rattle.theory_cli.specs.Running.{StopsAt, IsParsed};
 use crate::refusal::Refusal;
 use crate::running::Stop;
 use std::alloc::Global;
+use std::cmp::max;
 use theory_model::{Model, ModelFault, ModelKind, check, text_of};
 use theory_one_variable::{NotOneVariable, Text, one_variable};
-use theory_syntax::Numbered;
 use theory_text::{TextError, TextKind, read_text};
 
 /// The text that the bytes spell; its own faults come before those of its model.
@@ -30,7 +30,7 @@ pub fn parse(alloc: Global, bytes: &[u8]) -> Result<Text, Stop>
         Ok(model) => model,
         Err(fault) => return Err(model_stop(fault)),
     };
-    decide(alloc, &model)
+    decide(alloc, &model, last_line(bytes))
 }
 
 fn text_stop(error: TextError) -> Stop
@@ -55,24 +55,30 @@ fn model_stop(fault: ModelFault) -> Stop
     }
 }
 
-// The one-variable text that a checked model is.
-fn decide(alloc: Global, model: &Model) -> Result<Text, Stop>
+// The one-variable text that a checked model is; `last` is the number of the text's last line.
+fn decide(alloc: Global, model: &Model, last: u32) -> Result<Text, Stop>
     ensures { (bytes : List ℕ) → SpellsLines bytes (lines_of model.now) →
-        IsParsed bytes result }
+        last ≡ refusal.last_line bytes → IsParsed bytes result }
 {
-    let lines = text_of(model).as_slice();
-    match one_variable(alloc, lines, last_number(lines)) {
+    match one_variable(alloc, text_of(model).as_slice(), last) {
         Ok(text) => Ok(text),
         Err(NotOneVariable::NotYet(line)) => Err(Stop::Refused(Refusal::NotYet(line))),
         Err(NotOneVariable::Memory) => Err(Stop::NoMemory),
     }
 }
 
-fn last_number(lines: &[Numbered]) -> u32
-    ensures { result ≡ refusal.last_number (lines_of lines.now) }
+// The number of the last line; a line feed at the very end opens no further one.
+fn last_line(bytes: &[u8]) -> u32
+    requires { length bytes.now ≤ 65536 }
+    ensures { result ≡ refusal.last_line bytes.now }
 {
-    match lines.last() {
-        Some(line) => line.at,
-        None => 1,
+    let mut lines = 0;
+    let mut open = false;
+    for byte in bytes {
+        if !open {
+            lines += 1;
+        }
+        open = *byte != b'\n';
     }
+    max(1, lines)
 }
