@@ -5,12 +5,19 @@
 #![tactic(auto)]
 
 mod changing;
+#[cfg(test)]
+mod changing_tests;
 mod checking;
 mod faults;
+mod identifiers;
 mod judging;
 mod keys;
+#[cfg(test)]
+mod limits_tests;
 mod listing;
 mod model;
+#[cfg(test)]
+mod rows;
 #[cfg(test)]
 mod tests;
 mod uses;
@@ -18,6 +25,7 @@ mod uses;
 pub use changing::{EditFault, apply};
 pub use checking::check;
 pub use faults::ModelFault;
+pub use identifiers::{have_identifiers, put_identifiers};
 pub use listing::symbols;
 pub use model::{Model, text_of};
 pub use theory_meaning::ModelKind;

@@ -1,138 +1,209 @@
-use crate::{EditFault, Model, ModelFault, ModelKind, apply, check, symbols, text_of};
+use crate::rows::{Row, at, checked, fault, line, name, numbered};
+use crate::{Model, ModelFault, ModelKind, symbols};
 use std::alloc::Global;
 use std::test::Fail;
-use theory_points::{Frac, Name, Names, NoMemory};
-use theory_syntax::{Claim, Expr, Line, Lines, Numbered, Op, Rel};
+use theory_points::{Names, NoMemory};
+use theory_syntax::Numbered;
 
-fn name(alloc: Global, bytes: &[u8]) -> Result<Name, NoMemory> {
-    Name::from_slice(alloc, bytes)
+/// The fault of the lines, with the numbers 2, 4, 6 and so on.
+fn fault_of(alloc: Global, rows: &[Row]) -> Result<Option<ModelFault>, NoMemory> {
+    Ok(fault(checked(alloc, &numbered(alloc, rows)?)))
 }
 
-fn symbol(alloc: Global, bytes: &[u8]) -> Result<Expr, NoMemory> {
-    Ok(Expr::Sym(name(alloc, bytes)?))
-}
-
-/// The claim that a symbol is above 0.
-fn positive(alloc: Global, bytes: &[u8]) -> Result<Claim, NoMemory> {
-    Ok(Claim::Atom(symbol(alloc, bytes)?, Rel::Gt, Expr::Num(Frac::zero())))
-}
-
-fn model(alloc: Global) -> Result<Line, NoMemory> {
-    Ok(Line::Model(name(alloc, b"m")?))
-}
-
-fn var(alloc: Global, bytes: &[u8]) -> Result<Line, NoMemory> {
-    Ok(Line::Var(name(alloc, bytes)?))
-}
-
-fn param(alloc: Global, bytes: &[u8]) -> Result<Line, NoMemory> {
-    Ok(Line::Param(name(alloc, bytes)?))
-}
-
-fn function(alloc: Global, bytes: &[u8], arguments: &[u8]) -> Result<Line, NoMemory> {
-    let mut names = Names::new(alloc);
-    for argument in arguments {
-        names.push(name(alloc, &[*argument])?)?;
+/// The lines behind those of a small model, which has the numbers 2 to 8.
+fn fault_after(alloc: Global, rows: &[Row]) -> Result<Option<ModelFault>, NoMemory> {
+    let mut lines = numbered(alloc, &SMALL)?;
+    let mut at: u32 = 8;
+    for row in rows {
+        at = at.saturating_add(2);
+        lines.push(Numbered {
+            at,
+            line: line(alloc, *row)?,
+        })?;
     }
-    Ok(Line::Fun(name(alloc, bytes)?, names))
+    Ok(fault(checked(alloc, &lines)))
 }
 
-/// An equation of two symbols.
-fn equation(alloc: Global, left: &[u8], right: &[u8]) -> Result<Line, NoMemory> {
-    let sides = (symbol(alloc, left)?, symbol(alloc, right)?);
-    Ok(Line::Eq(name(alloc, b"E")?, sides.0, sides.1))
-}
-
-fn assume(alloc: Global, label: &[u8], bytes: &[u8]) -> Result<Line, NoMemory> {
-    Ok(Line::Assume(name(alloc, label)?, positive(alloc, bytes)?))
-}
-
-fn claim(alloc: Global, bytes: &[u8]) -> Result<Line, NoMemory> {
-    Ok(Line::Claim(name(alloc, b"C")?, None, positive(alloc, bytes)?))
-}
-
-fn claim_by(alloc: Global, shift: &[u8], bytes: &[u8]) -> Result<Line, NoMemory> {
-    let by = Some(name(alloc, shift)?);
-    Ok(Line::Claim(name(alloc, b"C")?, by, positive(alloc, bytes)?))
-}
-
-/// The lines, with the numbers 2, 4, 6 and so on.
-fn numbered(alloc: Global, lines: Vec<Line>) -> Result<Lines, NoMemory> {
-    let mut all = Vec::new(alloc);
-    let mut at = 0;
-    for line in lines {
-        at += 2;
-        all.push(Numbered { at, line })?;
-    }
-    Ok(all)
-}
-
-/// The fault of the lines, with those of a small model before them: `model m`, `var p`, `param t`,
-/// `fun D of p`, with the numbers 2 to 8.
-fn fault_after(alloc: Global, more: Vec<Line>) -> Result<Option<ModelFault>, NoMemory> {
-    let mut lines = vec![in alloc;
-        model(alloc)?,
-        var(alloc, b"p")?,
-        param(alloc, b"t")?,
-        function(alloc, b"D", b"p")?,
-    ]?;
-    for line in more {
-        lines.push(line)?;
-    }
-    fault_of(alloc, lines)
-}
-
-fn fault_of(alloc: Global, lines: Vec<Line>) -> Result<Option<ModelFault>, NoMemory> {
-    match check(alloc, &numbered(alloc, lines)?) {
-        Ok(_) => Ok(None),
-        Err(fault) => Ok(Some(fault)),
-    }
-}
-
-fn at(kind: ModelKind, at: u32) -> Option<ModelFault> {
-    Some(ModelFault { kind, at })
-}
+const SMALL: [Row; 4] = [
+    Row::Model,
+    Row::Var(b"p"),
+    Row::Param(b"t"),
+    Row::Fun(b"D", b"p"),
+];
 
 #[test]
 fn model_lines(rt: HostRuntime) -> Result<(), Fail> {
     let alloc = rt.alloc();
-    assert_eq!(rt;
-        fault_of(alloc, Vec::new(alloc))?,
-        at(ModelKind::ModelLine, 1)
-    );
-    let headless = vec![in alloc; var(alloc, b"x")?]?;
-    assert_eq!(rt; fault_of(alloc, headless)?, at(ModelKind::ModelLine, 2));
-    let twice = vec![in alloc; model(alloc)?, var(alloc, b"x")?, model(alloc)?]?;
-    assert_eq!(rt; fault_of(alloc, twice)?, at(ModelKind::ModelLine, 6));
-    let alone = vec![in alloc; model(alloc)?]?;
-    assert_eq!(rt; fault_of(alloc, alone)?, None);
+    let rows: [(&[Row], Option<ModelFault>); 5] = [
+        (&[], at(ModelKind::ModelLine, 1)),
+        (&[Row::Var(b"x")], at(ModelKind::ModelLine, 2)),
+        (&[Row::Var(b"x"), Row::Model], at(ModelKind::ModelLine, 2)),
+        (
+            &[Row::Model, Row::Var(b"x"), Row::Model],
+            at(ModelKind::ModelLine, 6),
+        ),
+        (&[Row::Model], None),
+    ];
+    for (lines, want) in rows {
+        assert_eq!(rt; fault_of(alloc, lines)?, want, "{lines:?}");
+    }
     Ok(())
 }
 
-// Each kind alone, below the small model; the first of these lines has the number 10.
+/// Each kind alone, below the small model; the first of these lines has the number 10.
+const KINDS: [(ModelKind, u32, &[Row]); 25] = [
+    (ModelKind::ModelLine, 10, &[Row::Model]),
+    (ModelKind::KeyTwice, 10, &[Row::Var(b"t")]),
+    (
+        ModelKind::KeyTwice,
+        12,
+        &[Row::Assume(b"A", b"p"), Row::Assume(b"A", b"t")],
+    ),
+    (ModelKind::KeyTwice, 10, &[Row::Assume(b"D", b"p")]),
+    (ModelKind::UnknownName, 10, &[Row::Claim(b"x")]),
+    (ModelKind::UnknownName, 10, &[Row::Claim(b"D.x")]),
+    (ModelKind::UnknownName, 10, &[Row::ClaimBy(b"s", b"p")]),
+    (ModelKind::UnknownName, 10, &[Row::ClaimBy(b"t", b"d.q")]),
+    (ModelKind::UnknownName, 10, &[Row::Fun(b"F", b"pq")]),
+    (ModelKind::UnknownName, 10, &[Row::Eq(b"p", b"q")]),
+    (
+        ModelKind::UnknownName,
+        12,
+        &[Row::Assume(b"A", b"p"), Row::Claim(b"A")],
+    ),
+    (ModelKind::UnknownName, 10, &[Row::Assume(b"A", b"m")]),
+    (ModelKind::BadArgument, 10, &[Row::Fun(b"F", b"pD")]),
+    (ModelKind::BadArgument, 10, &[Row::Fun(b"F", b"ptp")]),
+    (ModelKind::BadArgument, 10, &[Row::Claim(b"D.t")]),
+    (ModelKind::BadArgument, 10, &[Row::Claim(b"p.t")]),
+    (ModelKind::BadArgument, 10, &[Row::ClaimBy(b"t", b"d.t")]),
+    (ModelKind::BadArgument, 10, &[Row::ClaimBy(b"t", b"d.D")]),
+    (ModelKind::BadArgument, 10, &[Row::Eq(b"p", b"D.p")]),
+    (ModelKind::NoShift, 10, &[Row::Assume(b"A", b"d.p")]),
+    (ModelKind::NoShift, 10, &[Row::Claim(b"d.p")]),
+    (ModelKind::NoShift, 10, &[Row::Eq(b"d.p", b"p")]),
+    (ModelKind::NotParam, 10, &[Row::ClaimBy(b"p", b"d.p")]),
+    (ModelKind::NotParam, 10, &[Row::ClaimBy(b"D", b"p")]),
+    (
+        ModelKind::NotParam,
+        12,
+        &[Row::Param(b"s"), Row::ClaimBy(b"p", b"s")],
+    ),
+];
+
 #[test]
 fn kinds(rt: HostRuntime) -> Result<(), Fail> {
     let alloc = rt.alloc();
-    let rows = vec![in alloc;
-        (ModelKind::KeyTwice, 10, vec![in alloc; var(alloc, b"t")?]?),
+    for (kind, number, lines) in KINDS {
+        assert_eq!(rt; fault_after(alloc, lines)?, at(kind, number), "{lines:?}");
+    }
+    Ok(())
+}
+
+/// Two faults of different kinds, of which the kind that is looked for first stands below.
+const PAIRS: [(ModelKind, &[Row]); 6] = [
+    (ModelKind::ModelLine, &[Row::Var(b"t"), Row::Model]),
+    (ModelKind::KeyTwice, &[Row::Claim(b"x"), Row::Var(b"t")]),
+    (
+        ModelKind::UnknownName,
+        &[Row::Eq(b"D.p", b"p"), Row::Claim(b"x")],
+    ),
+    (
+        ModelKind::BadArgument,
+        &[Row::Assume(b"A", b"d.p"), Row::Fun(b"F", b"D")],
+    ),
+    (
+        ModelKind::NoShift,
+        &[Row::ClaimBy(b"p", b"p"), Row::Assume(b"A", b"d.p")],
+    ),
+    (
+        ModelKind::UnknownName,
+        &[Row::Fun(b"F", b"pp"), Row::ClaimBy(b"s", b"d.q")],
+    ),
+];
+
+#[test]
+fn the_kind_that_goes_first(rt: HostRuntime) -> Result<(), Fail> {
+    let alloc = rt.alloc();
+    for (kind, lines) in PAIRS {
+        assert_eq!(rt; fault_after(alloc, lines)?, at(kind, 12), "{lines:?}");
+    }
+    Ok(())
+}
+
+#[test]
+fn accepted_lines(rt: HostRuntime) -> Result<(), Fail> {
+    let alloc = rt.alloc();
+    let rows: [&[Row]; 5] = [
+        &[],
+        &[Row::Assume(b"A", b"D.p"), Row::Claim(b"D.p")],
+        &[Row::ClaimBy(b"t", b"d.p"), Row::Eq(b"D", b"t")],
+        &[Row::Fun(b"F", b"pt"), Row::Claim(b"F.t")],
+        // a name may be used above the line that declares it
+        &[Row::Eq(b"q", b"p"), Row::Var(b"q")],
+    ];
+    for lines in rows {
+        assert_eq!(rt; fault_after(alloc, lines)?, None, "{lines:?}");
+    }
+    Ok(())
+}
+
+fn are(names: &Names, wanted: &[&[u8]]) -> bool {
+    let names = names.as_slice();
+    if names.len() != wanted.len() {
+        return false;
+    }
+    for (k, bytes) in wanted.iter().enumerate() {
+        if names[k].as_slice() != *bytes {
+            return false;
+        }
+    }
+    true
+}
+
+fn model_of(alloc: Global, rows: &[Row]) -> Result<Model, ModelFault> {
+    match numbered(alloc, rows) {
+        Ok(lines) => checked(alloc, &lines),
+        Err(_) => Err(ModelFault {
+            kind: ModelKind::Memory,
+            at: 1,
+        }),
+    }
+}
+
+/// Derivatives are listed behind their variables where the claim names a shift, slopes always.
+#[test]
+fn listed_symbols(rt: HostRuntime) -> Result<(), Fail> {
+    let alloc = rt.alloc();
+    let rows: [(&[Row], &[&[u8]]); 3] = [
         (
-            ModelKind::KeyTwice,
-            12,
-            vec![in alloc; assume(alloc, b"A", b"p")?, assume(alloc, b"A", b"t")?]?
+            &[
+                Row::Model,
+                Row::Fun(b"D", b"pt"),
+                Row::Var(b"p"),
+                Row::Param(b"t"),
+                Row::Claim(b"p"),
+            ],
+            &[b"D", b"D.p", b"D.t", b"p", b"t"],
         ),
         (
-            ModelKind::UnknownName,
-            10,
-            vec![in alloc; claim(alloc, b"x")?]?
+            &[
+                Row::Model,
+                Row::Var(b"p"),
+                Row::ClaimBy(b"t", b"p"),
+                Row::Fun(b"D", b"p"),
+                Row::Param(b"t"),
+            ],
+            &[b"p", b"d.p", b"D", b"D.p", b"t"],
         ),
-        (
-            ModelKind::UnknownName,
-            10,
-            vec![in alloc; claim(alloc, b"D.x")?]?
-        ),
-    ]?;
-    for (kind, number, lines) in rows {
-        assert_eq!(rt; fault_after(alloc, lines)?, at(kind, number));
+        (&[Row::Model, Row::Var(b"p")], &[b"p"]),
+    ];
+    let label = name(alloc, b"C")?;
+    for (lines, want) in rows {
+        let model = model_of(alloc, lines)?;
+        let names = symbols(alloc, &model, &label)?;
+        let found = are(&names, want);
+        assert!(rt; found, "{lines:?}");
     }
     Ok(())
 }

@@ -6,6 +6,8 @@
 #![tactic(auto)]
 
 mod atom;
+#[cfg(test)]
+mod claim_rows;
 mod claims;
 mod copying;
 mod counting;
@@ -13,6 +15,8 @@ mod fault;
 mod formula;
 mod listing;
 mod lowering;
+#[cfg(test)]
+mod lowering_tests;
 mod making;
 mod naming;
 mod negation;
@@ -22,6 +26,12 @@ mod quotients;
 mod rows;
 #[cfg(test)]
 mod tests;
+#[cfg(test)]
+mod truth_rows;
+#[cfg(test)]
+mod truth_tests;
+#[cfg(test)]
+mod written_tests;
 
 pub use atom::Atom;
 pub use claims::claim_of;
