@@ -178,7 +178,7 @@ fn refuses_what_is_not_decided_yet(rt: HostRuntime) -> Result<(), Fail> {
                 b"model m\nvar x\n\nclaim C: x + 1 > 0\n",
                 ":4: NotYet",
             ),
-            ("alone.theory", b"\nmodel m\n\n", ":2: NotYet"),
+            ("alone.theory", b"\nmodel m\n\n", ":3: NotYet"),
             ("param.theory", b"model m\nparam t\n", ":2: NotYet"),
         ],
     )
