@@ -1,3 +1,5 @@
 pub use Rattle.theory_grammar.specs.TextFault
 pub use Rattle.theory_grammar.specs.Texts
 pub mod Answers
+pub mod Cut
+pub mod Placed

@@ -5,7 +5,9 @@
 //! Read `read_text` first.
 #![tactic(auto)]
 
+mod cutting;
 mod error;
+mod placing;
 mod reading;
 
 pub use error::TextError;
