@@ -3,3 +3,4 @@ pub use Rattle.theory_grammar.specs.Texts
 pub mod Answers
 pub mod Cut
 pub mod Placed
+pub mod LineRead

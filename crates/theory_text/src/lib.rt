@@ -7,8 +7,10 @@
 
 mod cutting;
 mod error;
+mod one_line;
 mod placing;
 mod reading;
+mod whole;
 
 pub use error::TextError;
 pub use reading::{read_line, read_ops, read_text};
