@@ -1,10 +1,13 @@
 -- The first of the lines into which bytes are cut.
-use Rattle.std.proofs.Common.{◌≡◌, ℕ, ◌-◌, ◌<◌, ◌≤◌, Bool, true, false, not, ◌==◌, cond, List, [], ◌∷◌, ◌++◌, length, take, drop, refl, sym, ap, ◌∙◌, subst, arith, length-append}
+use Rattle.std.proofs.Common.{◌≡◌, ℕ, ◌+◌, ◌-◌, ◌<◌, ◌≤◌, Bool, true, false, not, ◌==◌, cond, List, [], ◌∷◌, ◌++◌, length, take, drop, refl, sym, ap, ◌∙◌, subst, arith, length-append}
 use Rattle.std.proofs.lemmas.Bool.{false≢true, and_parts, eqb-true}
 use Rattle.std.proofs.lemmas.List.{append-nil, take_all}
-use Rattle.theory_grammar.specs.OneLine.{has_no_feed}
+use Rattle.theory_grammar.specs.declared.text_kind.TextKind.TheVariants.{BadToken}
+use Rattle.theory_grammar.specs.OneLine.{has_no_feed, in_line_1}
 use Rattle.theory_grammar.specs.TextFault.{onto_first, cut_lines}
-use Rattle.theory_text.specs.Cut.{IsBeforeFeed, CutsFirst}
+use Rattle.theory_text.specs.declared.error.TextError.{TextError}
+use Rattle.theory_text.specs.Answers.{fault_of}
+use Rattle.theory_text.specs.Cut.{IsBeforeFeed, CutsFirst, TellsFeed}
 
 -- a byte that is no line feed stands on the line of the next
 onto_line : (b : ℕ) (t : Bool) (l : List ℕ) (ls : List (List ℕ)) (bs : List ℕ) → not t ≡ true → cut_lines bs ≡ l ∷ ls →
@@ -53,3 +56,16 @@ next_line l (b ∷ rest) bytes cut some =
       shorter = omega (arith, ap length whole ∙ length-append l (10 ∷ rest));
     } in
     subst (λ (bs : List ℕ). CutsFirst l bs bytes) (sym (take_all (length (b ∷ rest) - 1) rest (omega arith))) cut_short
+
+-- the first line feed of the bytes
+pub feed_told : (before rest bytes : List ℕ) (e : TextError) → IsBeforeFeed before rest bytes → false ≡ (length rest == 0) →
+    fault_of e ≡ in_line_1 BadToken (length before + 1) → TellsFeed bytes e
+feed_told before [] bytes e cut some told = absurd (false≢true some)
+feed_told before (b ∷ rest) bytes e cut some told =
+    let feed : b ≡ 10 = stops b (b == 10) refl cut.ends in
+    record { before = before; behind = rest; split = cut.whole ∙ ap (λ (d : ℕ). before ++ d ∷ rest) feed; none = cut.pass; told = told }
+
+-- no line feed stands among the bytes
+pub no_feed : (before rest bytes : List ℕ) → IsBeforeFeed before rest bytes → true ≡ (length rest == 0) → has_no_feed bytes ≡ true
+no_feed before (b ∷ rest) bytes cut none = absurd (omega (arith, eqb-true (length (b ∷ rest)) 0 (sym none)))
+no_feed before [] bytes cut none = ap has_no_feed (cut.whole ∙ append-nil before) ∙ cut.pass

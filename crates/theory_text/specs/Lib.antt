@@ -2,5 +2,6 @@ pub use Rattle.theory_grammar.specs.TextFault
 pub use Rattle.theory_grammar.specs.Texts
 pub mod Answers
 pub mod Cut
-pub mod Placed
+pub mod Checked
 pub mod LineRead
+pub mod Added
