@@ -10,6 +10,8 @@ mod error;
 mod one_line;
 mod placing;
 mod reading;
+#[cfg(test)]
+mod tests;
 mod whole;
 
 pub use error::TextError;
