@@ -1,8 +1,8 @@
 //! Model texts, edit texts and single lines: read from bytes, and printed.
 //!
-//! `read_text` gives the numbered lines that bytes spell by the grammar of `theory_grammar`, or their
-//! first fault with its line and column; `read_ops` and `read_line` do so for edits and for one line.
-//! Read `read_text` first.
+//! `read_text` gives the numbered lines that bytes spell by the grammar of `theory_grammar`, or
+//! their first fault with its line and column; `read_ops` and `read_line` do so for edits and for
+//! one line. Read `read_text` first.
 #![tactic(auto)]
 
 mod cutting;

@@ -22,7 +22,12 @@ pub fn fault(kind: TextKind, line: u32, column: u32) -> TextError {
 }
 
 /// These bytes, and behind them the same one so many times.
-pub fn repeated(alloc: Global, start: &[u8], byte: u8, times: u32) -> Result<Vec<u8>, AllocFailed<u8>> {
+pub fn repeated(
+    alloc: Global,
+    start: &[u8],
+    byte: u8,
+    times: u32,
+) -> Result<Vec<u8>, AllocFailed<u8>> {
     let mut bytes = Vec::new(alloc);
     for first in start {
         bytes.push(*first)?;
