@@ -1,12 +1,18 @@
 //! Model texts, edit texts and single lines: read from bytes, and printed.
 //!
-//! `read_text` gives the numbered lines that bytes spell by the grammar of `theory_grammar`, or their
-//! first fault with its line and column; `read_ops` and `read_line` do so for edits and for one line.
-//! Read `read_text` first.
+//! `read_text` gives the numbered lines that bytes spell by the grammar of `theory_grammar`, or
+//! their first fault with its line and column; `read_ops` and `read_line` do so for edits and for
+//! one line. Read `read_text` first.
 #![tactic(auto)]
 
+mod cutting;
 mod error;
+mod one_line;
+mod placing;
 mod reading;
+#[cfg(test)]
+mod tests;
+mod whole;
 
 pub use error::TextError;
 pub use reading::{read_line, read_ops, read_text};

@@ -1,0 +1,25 @@
+use Rattle.std.proofs.Common.{sym, ◌∙◌}
+use Rattle.theory_syntax.specs.Plain.{op_of}
+use Rattle.theory_grammar.specs.Spelled.{IsOp}
+use Rattle.theory_grammar.proofs.Outcomes.{ops_have_one_outcome}
+use Rattle.theory_text.proofs.LineLemmas.{long_read, tree_read, passed_error}
+use Rattle.theory_text.proofs.one_line.one_op.Goals as goal
+
+pub returns-in_err-scanned : goal.returns-in_err-scanned
+returns-in_err-scanned c =
+    passed_error IsOp op_of _ _ _ _ (long_read IsOp _ _ _ c.in_err-scanned.ensures) c.from_residual.ensures.1
+
+pub returns-in_err-whole_line : goal.returns-in_err-whole_line
+returns-in_err-whole_line c =
+    let some = sym c.has_nothing.ensures ∙ c.if-has_nothing.false in
+    let parsed = c.parse_op-parsed.ensures in
+    let tokens = c.as_slice.ensures.value in
+    let fails = tree_read IsOp ops_have_one_outcome op_of _ _ _ _ _ c.in_ok-scanned.ensures some (rw tokens at parsed) c.in_err-whole_line.ensures in
+    passed_error IsOp op_of _ _ _ _ fails c.from_residual-in_err-whole_line.ensures.1
+
+pub returns : goal.returns
+returns c =
+    let some = sym c.has_nothing.ensures ∙ c.if-has_nothing.false in
+    let parsed = c.parse_op-parsed.ensures in
+    let tokens = c.as_slice.ensures.value in
+    tree_read IsOp ops_have_one_outcome op_of _ _ _ _ _ c.in_ok-scanned.ensures some (rw tokens at parsed) c.in_ok-whole_line.ensures
