@@ -1,3 +1,5 @@
 pub mod Parsed
 pub mod Reading
 pub mod Behind
+pub mod First
+pub mod Claims

@@ -3,6 +3,7 @@ ghost use Rattle.theory_grammar.specs.Scan.{IsFit};
 ghost use Rattle.theory_grammar.proofs.Machine.{Place, Context, fresh, operand};
 ghost use Rattle.theory_line.specs.Reading.{Parses, reading};
 ghost use Rattle.theory_line.specs.Behind.{behind_expr};
+ghost use Rattle.theory_line.specs.Claims.{LeavesFit};
 ghost use Rattle.theory_syntax.specs.Plain.{expr_of};
 ghost use Rattle.theory_tokens.specs.Plain.{plain_tokens};
 
@@ -19,9 +20,10 @@ pub fn expr<'a>(
 ) -> Result<(Expr, &'a [Token<'a>]), ParseFault>
     requires open { depth ≤ 32 }
     requires fit { All IsFit (plain_tokens tokens.now) }
-    ensures { (o : List Place) (ctx : Context) → Parses expr_of
+    ensures parses { (o : List Place) (ctx : Context) → Parses expr_of
         (reading (operand (fresh depth) o ctx) (plain_tokens tokens.now))
         (λ x rest. behind_expr x o ctx rest) tokens.now result }
+    ensures fit { LeavesFit result }
 {
     Err(ParseFault::Memory)
 }

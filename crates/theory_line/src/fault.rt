@@ -11,6 +11,11 @@ pub enum ParseFault {
 }
 
 impl From<NoMemory> for ParseFault {
+    ghost use Rattle.std.specs.Prelude.{◌≡◌};
+    ghost use Rattle.theory_line.specs.declared.fault.ParseFault.TheVariants as judged;
+
+    ghost from_gives = { λ _ e. e ≡ judged.Memory };
+
     fn from(_: NoMemory) -> Self {
         ParseFault::Memory
     }

@@ -4,9 +4,13 @@
 //! or their first fault. Read `parse_line` first.
 #![tactic(auto)]
 
+mod claim_nodes;
+mod claims;
+mod comparisons;
 mod exprs;
 mod fault;
 mod lines;
+mod next;
 
 pub use fault::ParseFault;
 pub use lines::{parse_line, parse_op};

@@ -1,0 +1,5 @@
+pub mod ParsesLaws
+pub mod ClaimReading
+pub mod NodeLemmas
+pub mod ChainLaws
+pub mod SideLaws
