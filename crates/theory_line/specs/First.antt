@@ -3,6 +3,7 @@ use Rattle.std.specs.Prelude.{◌≡◌, ◌≢◌, ℕ, List, [], ◌∷◌, Op
 use Rattle.std.specs.Borrow.{Bor}
 use Rattle.theory_meaning.specs.declared.words.Rel.{Rel}
 use Rattle.theory_meaning.specs.Point.{Name}
+use Rattle.theory_grammar.specs.declared.words.Keyword.{Keyword}
 use Rattle.theory_grammar.specs.declared.words.Keyword.TheVariants as word
 use Rattle.theory_grammar.specs.declared.words.Mark.TheVariants as sign
 use Rattle.theory_grammar.specs.Token.{Token, keyword, mark, name, relation}
@@ -46,3 +47,12 @@ BeginsNoClaim (keyword word.False ∷ ts) = ⊥
 BeginsNoClaim (keyword word.Not ∷ ts) = ⊥
 BeginsNoClaim (mark sign.OpenSquare ∷ ts) = ⊥
 BeginsNoClaim _ = Unit {0}
+
+-- this word stands first with these tokens behind it, or none does
+abbrev pub HasNoKeyword : List Token → Type 0
+HasNoKeyword (keyword k ∷ ts) = ⊥
+HasNoKeyword _ = Unit {0}
+
+abbrev pub KeywordFirst : List Token → Option (Keyword × Bor (List source.Token)) → Type 0
+KeywordFirst ts None = HasNoKeyword ts
+KeywordFirst ts (Some (k, rest)) = ts ≡ keyword k ∷ plain_tokens rest.now

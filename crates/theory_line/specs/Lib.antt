@@ -3,3 +3,4 @@ pub mod Reading
 pub mod Behind
 pub mod First
 pub mod Claims
+pub mod Lines

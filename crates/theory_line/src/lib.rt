@@ -7,10 +7,13 @@
 mod claim_nodes;
 mod claims;
 mod comparisons;
+mod edits;
 mod exprs;
 mod fault;
 mod lines;
+mod names;
 mod next;
 
+pub use edits::parse_op;
 pub use fault::ParseFault;
-pub use lines::{parse_line, parse_op};
+pub use lines::parse_line;

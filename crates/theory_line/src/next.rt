@@ -1,6 +1,6 @@
 ghost use Rattle.std.specs.Prelude.{◌≡◌, [], ◌∷◌, MatchOption};
-ghost use Rattle.theory_grammar.specs.Token.{keyword, mark};
-ghost use Rattle.theory_line.specs.First.{StandsFirst, NameFirst, RelationFirst};
+ghost use Rattle.theory_grammar.specs.Token.{keyword, mark, relation};
+ghost use Rattle.theory_line.specs.First.{StandsFirst, KeywordFirst, NameFirst, RelationFirst};
 ghost use Rattle.theory_tokens.specs.Plain.{plain_tokens};
 
 use theory_grammar::{Keyword, Mark};
@@ -33,6 +33,26 @@ pub fn behind_mark<'a>(sign: Mark, tokens: &'a [Token<'a>]) -> Option<&'a [Token
 {
     match split_first(tokens) {
         Some((Token::Mark(first), rest)) if first == sign => Some(rest),
+        _ => None,
+    }
+}
+
+/// The tokens behind this relation, where it stands first.
+pub fn behind_relation<'a>(rel: Rel, tokens: &'a [Token<'a>]) -> Option<&'a [Token<'a>]>
+    ensures { StandsFirst (relation rel) (plain_tokens tokens.now) result }
+{
+    match split_first(tokens) {
+        Some((Token::Relation(first), rest)) if first == rel => Some(rest),
+        _ => None,
+    }
+}
+
+/// The word that stands first, and the tokens behind it.
+pub fn keyword_first<'a>(tokens: &'a [Token<'a>]) -> Option<(Keyword, &'a [Token<'a>])>
+    ensures { KeywordFirst (plain_tokens tokens.now) result }
+{
+    match split_first(tokens) {
+        Some((Token::Keyword(word), rest)) => Some((word, rest)),
         _ => None,
     }
 }
