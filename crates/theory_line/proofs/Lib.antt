@@ -3,3 +3,11 @@ pub mod FitLemmas
 pub mod ExprLemmas
 pub mod ParsesLemmas
 pub mod ScanLemmas
+pub mod ParsesLaws
+pub mod ClaimReading
+pub mod NodeLemmas
+pub mod ChainLaws
+pub mod SideLaws
+pub mod OutcomeLaws
+pub mod LineReading
+pub mod EditReading

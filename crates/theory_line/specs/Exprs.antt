@@ -51,11 +51,6 @@ abbrev pub summed : Addition → Expr → Expr → Expr
 summed Plus x y = plain.sum x y
 summed Minus x y = plain.difference x y
 
--- the tokens behind a part that was read are fit
-abbrev pub LeavesFit : {V : Type 0} → Result (V × Bor (List source.Token)) ParseFault → Type 0
-LeavesFit (Ok (v, rest)) = All IsFit (plain_tokens rest.now)
-LeavesFit (Err fault) = Unit {0}
-
 -- an expression and the tokens behind it, or a fault
 abbrev pub Answer : Type 0
 Answer = Result (node.Expr × Bor (List source.Token)) ParseFault

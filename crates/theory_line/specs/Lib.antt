@@ -2,3 +2,6 @@ pub mod Parsed
 pub mod Reading
 pub mod Behind
 pub mod Exprs
+pub mod First
+pub mod Claims
+pub mod Lines

@@ -1,9 +1,10 @@
 -- What the machine of the grammar's laws makes of tokens from a state on, for the clauses of private functions.
-use Rattle.std.specs.Prelude.{◌≡◌, ℕ, suc, ◌<◌, List, [], ◌∷◌, length, Option, None, Some, Result, Ok, Err}
+use Rattle.std.specs.Prelude.{◌≡◌, ℕ, suc, All, ◌<◌, List, [], ◌∷◌, length, Option, None, Some, Result, Ok, Err}
 use Rattle.std.specs.Borrow.{Bor}
 use Rattle.theory_meaning.specs.Tree.{Line}
 use Rattle.theory_grammar.specs.declared.words.LineFaultKind.{LineFaultKind}
 use Rattle.theory_grammar.specs.declared.words.LineFaultKind.TheVariants.{Unexpected}
+use Rattle.theory_grammar.specs.Scan.{IsFit}
 use Rattle.theory_grammar.specs.Token.{Token}
 use Rattle.theory_grammar.specs.Spelled.{every}
 use Rattle.theory_grammar.proofs.Machine.{State, Move, step, ended}
@@ -38,3 +39,8 @@ abbrev pub Parses : {V T : Type 0} → (V → T) → Reading → (T → List Tok
 Parses tree from_here behind tokens (Ok (v, rest)) = (from_here ≡ behind (tree v) (plain_tokens rest.now)) × (length rest.now < length tokens)
 Parses tree from_here behind tokens (Err (At kind left)) = from_here ≡ stopped kind left
 Parses tree from_here behind tokens (Err Memory) = Unit {0}
+
+-- the tokens that are left are fit
+abbrev pub LeavesFit : {V : Type 0} → Result (V × Bor (List source.Token)) ParseFault → Type 0
+LeavesFit (Ok (v, rest)) = All IsFit (plain_tokens rest.now)
+LeavesFit (Err fault) = Unit {0}

@@ -6,12 +6,19 @@
 
 #[cfg(test)]
 mod expr_tests;
+mod claim_nodes;
+mod claims;
+mod comparisons;
+mod edits;
 mod exprs;
 mod fault;
 mod front;
 mod lines;
 mod literals;
 mod nodes;
+mod names;
+mod next;
 
+pub use edits::parse_op;
 pub use fault::ParseFault;
-pub use lines::{parse_line, parse_op};
+pub use lines::parse_line;

@@ -3,7 +3,8 @@ ghost use Rattle.theory_meaning.specs.Fraction.{whole};
 ghost use Rattle.theory_meaning.specs.Limits.{bound};
 ghost use Rattle.theory_grammar.specs.Scan.{IsFit};
 ghost use Rattle.theory_grammar.specs.Spelled.{lowest};
-ghost use Rattle.theory_line.specs.Exprs.{LeavesFit, ParsesBelow, ParsesExponent};
+ghost use Rattle.theory_line.specs.Reading.{LeavesFit};
+ghost use Rattle.theory_line.specs.Exprs.{ParsesBelow, ParsesExponent};
 ghost use Rattle.theory_syntax.specs.Plain.{expr_of};
 ghost use Rattle.theory_tokens.specs.Plain.{plain_tokens};
 
