@@ -4,20 +4,22 @@
 //! or their first fault. Read `parse_line` first.
 #![tactic(auto)]
 
-#[cfg(test)]
-mod expr_tests;
 mod claim_nodes;
 mod claims;
 mod comparisons;
 mod edits;
+#[cfg(test)]
+mod expr_tests;
 mod exprs;
 mod fault;
 mod front;
+#[cfg(test)]
+mod line_tests;
 mod lines;
 mod literals;
-mod nodes;
 mod names;
 mod next;
+mod nodes;
 
 pub use edits::parse_op;
 pub use fault::ParseFault;

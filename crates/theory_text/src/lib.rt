@@ -11,6 +11,8 @@ mod one_line;
 mod placing;
 mod reading;
 #[cfg(test)]
+mod reading_tests;
+#[cfg(test)]
 mod tests;
 mod whole;
 

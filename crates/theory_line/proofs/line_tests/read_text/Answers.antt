@@ -1,0 +1,10 @@
+use Rattle.std.proofs.Common.{All, sym, subst}
+use Rattle.theory_grammar.specs.Scan.{IsFit}
+use Rattle.theory_tokens.specs.Plain.{plain_tokens}
+use Rattle.theory_line.proofs.ScanLemmas.{fit_of_scan}
+use Rattle.theory_line.proofs.line_tests.read_text.Goals as goal
+
+pub parse_line-requires : goal.parse_line-requires
+parse_line-requires c =
+    let scanned = c.in_ok-scanned.scanned in
+    record { fit = subst (λ ts. All IsFit (plain_tokens ts)) (sym c.deref.ensures.value) (fit_of_scan c.args.line.now scanned c.in_ok-scanned.ensures) }
