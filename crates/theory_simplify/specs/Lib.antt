@@ -1,0 +1,1 @@
+pub use Rattle.theory_elimination.specs.Simplified

@@ -1,0 +1,8 @@
+//! The simplification of formulas: the written form, with the same truth at every point.
+//!
+//! A contract sees a formula as its plain tree. `simplify` is the one call.
+#![tactic(auto)]
+
+mod simplification;
+
+pub use simplification::simplify;
