@@ -3,6 +3,11 @@
 //! A contract sees a formula as its plain tree. `simplify` is the one call.
 #![tactic(auto)]
 
+mod facts;
+mod finishing;
+mod flattening;
+mod gathering;
+mod sameness;
 mod simplification;
 
 pub use simplification::simplify;
