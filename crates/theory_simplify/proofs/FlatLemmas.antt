@@ -27,7 +27,8 @@ parts_from [] = refl
 parts_from (F ∷ Fs) = ap (λ (ps : Parts). part_of F ∷ ps) (parts_from Fs)
 
 listed_parts : (Gs : plain.Formulas) (Fs : List made.Formula) → Gs ≡ formulas_from (map formula_of Fs) → map as_part (formulas_list Gs) ≡ parts_of Fs
-listed_parts Gs Fs same = ap (λ (Hs : plain.Formulas). map as_part (formulas_list Hs)) same ∙ ap (map as_part) (list_of_from (map formula_of Fs)) ∙ parts_from Fs
+listed_parts Gs Fs same =
+    ap (λ (Hs : plain.Formulas). map as_part (formulas_list Hs)) same ∙ ap (map as_part) (list_of_from (map formula_of Fs)) ∙ parts_from Fs
 
 -- the members of a list of the kind, spliced or flattened
 pub opened_spliced : (all : Bool) (F : plain.Formula) (Fs : List made.Formula) → opened all F ≡ Ok (formulas_from (map formula_of Fs))

@@ -87,7 +87,10 @@ pub held_within : (P : List Monomial) (ps : Parts) (i : ℕ) (T : Signs) → hel
 held_within P [] i T h = absurd (let e : None ≡ Some (i, T) = h in cc)
 held_within P (m ∷ ps) i T h =
     elim (condition_on P m) as (λ o. first_or o (held_at P ps) ≡ Some (i, T) → i < suc (length ps)) [
-      | None ↦ λ e. let found = later (held_at P ps) i T e in let below = held_within P ps found.place T found.is in let next : i ≡ suc found.place = found.next in omega arith
+      | None ↦ λ e.
+          let found = later (held_at P ps) i T e in
+          let below = held_within P ps found.place T found.is in
+          let next : i ≡ suc found.place = found.next in omega arith
       | Some U ↦ λ e. let found : (0, U) ≡ (i, T) = cc in let first : 0 ≡ i = ap (λ (k : ℕ × Signs). k.0) found in omega arith
     ] h
 
@@ -138,7 +141,10 @@ pub known_within : (P : List Monomial) (K : Facts) (i : ℕ) (T : Signs) → kno
 known_within P [] i T h = absurd (let e : None ≡ Some (i, T) = h in cc)
 known_within P (f ∷ K) i T h =
     elim (if is_same_poly f.poly P then Some f.signs else None) as (λ o. first_or o (known_at P K) ≡ Some (i, T) → i < suc (length K)) [
-      | None ↦ λ e. let found = later (known_at P K) i T e in let below = known_within P K found.place T found.is in let next : i ≡ suc found.place = found.next in omega arith
+      | None ↦ λ e.
+          let found = later (known_at P K) i T e in
+          let below = known_within P K found.place T found.is in
+          let next : i ≡ suc found.place = found.next in omega arith
       | Some U ↦ λ e. let found : (0, U) ≡ (i, T) = cc in let first : 0 ≡ i = ap (λ (k : ℕ × Signs). k.0) found in omega arith
     ] h
 

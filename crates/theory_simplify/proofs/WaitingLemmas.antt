@@ -13,15 +13,18 @@ use Rattle.theory_simplify.specs.Parts.{waiting_part, waiting, flat_parts, all_f
 abbrev Parts : Type 0
 Parts = List (Part Formula)
 
-front : (m : Part Formula) (o : Option Parts) → option_map (λ qs. waiting_part m ∷ qs) (option_map waiting o) ≡ option_map waiting (option_map (λ qs. m ∷ qs) o)
+front : (m : Part Formula) (o : Option Parts)
+    → option_map (λ qs. waiting_part m ∷ qs) (option_map waiting o) ≡ option_map waiting (option_map (λ qs. m ∷ qs) o)
 front m None = refl
 front m (Some qs) = refl
 
-met : (Q : List Monomial) (ps : Parts) (o : Option Signs) → option_map (λ R. condition Q R ∷ waiting ps) o ≡ option_map waiting (option_map (λ R. condition Q R ∷ ps) o)
+met : (Q : List Monomial) (ps : Parts) (o : Option Signs)
+    → option_map (λ R. condition Q R ∷ waiting ps) o ≡ option_map waiting (option_map (λ R. condition Q R ∷ ps) o)
 met Q ps None = refl
 met Q ps (Some R) = refl
 
-condition_waits : (all : Bool) (P : List Monomial) (S : Signs) (ps : Parts) → with_condition all P S (waiting ps) ≡ option_map waiting (with_condition all P S ps)
+condition_waits : (all : Bool) (P : List Monomial) (S : Signs) (ps : Parts)
+    → with_condition all P S (waiting ps) ≡ option_map waiting (with_condition all P S ps)
 condition_waits all P S [] = refl
 condition_waits all P S (told b ∷ ps) = ap (option_map (λ qs. told b ∷ qs)) (condition_waits all P S ps) ∙ front (told b) (with_condition all P S ps)
 condition_waits all P S (other F ∷ ps) =
@@ -35,7 +38,8 @@ condition_waits all P S (condition Q T ∷ ps) =
       | false ↦ ap (option_map (λ qs. condition Q T ∷ qs)) (condition_waits all P S ps) ∙ front (condition Q T) (with_condition all P S ps)
     ]
 
-then_waits : (o : Option Parts) (f : List Waiting → Option (List Waiting)) (g : Parts → Option Parts) → ((ps : Parts) → f (waiting ps) ≡ option_map waiting (g ps))
+then_waits : (o : Option Parts) (f : List Waiting → Option (List Waiting)) (g : Parts → Option Parts)
+    → ((ps : Parts) → f (waiting ps) ≡ option_map waiting (g ps))
     → option_and_then f (option_map waiting o) ≡ option_map waiting (option_and_then g o)
 then_waits None f g h = refl
 then_waits (Some ps) f g h = h ps
@@ -43,9 +47,11 @@ then_waits (Some ps) f g h = h ps
 behind_waits : (all : Bool) (done ps : Parts) → gathered_behind all (waiting done) (waiting ps) ≡ option_map waiting (gathered_behind all done ps)
 behind_waits all done [] = refl
 behind_waits all done (told b ∷ ps) =
-    ap (λ (qs : List Waiting). gathered_behind all qs (waiting ps)) (sym (map-append waiting_part done (told b ∷ []))) ∙ behind_waits all (done ++ told b ∷ []) ps
+    ap (λ (qs : List Waiting). gathered_behind all qs (waiting ps)) (sym (map-append waiting_part done (told b ∷ [])))
+    ∙ behind_waits all (done ++ told b ∷ []) ps
 behind_waits all done (other F ∷ ps) =
-    ap (λ (qs : List Waiting). gathered_behind all qs (waiting ps)) (sym (map-append waiting_part done (other F ∷ []))) ∙ behind_waits all (done ++ other F ∷ []) ps
+    ap (λ (qs : List Waiting). gathered_behind all qs (waiting ps)) (sym (map-append waiting_part done (other F ∷ [])))
+    ∙ behind_waits all (done ++ other F ∷ []) ps
 behind_waits all done (condition P S ∷ ps) =
     ap (option_and_then (λ (qs : List Waiting). gathered_behind all qs (waiting ps))) (condition_waits all P S done)
     ∙ then_waits (with_condition all P S done) (λ qs. gathered_behind all qs (waiting ps)) (λ qs. gathered_behind all qs ps) (λ qs. behind_waits all qs ps)

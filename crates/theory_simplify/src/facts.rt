@@ -76,8 +76,8 @@ fn copied(alloc: Global, facts: &[Atom]) -> Result<Facts, NoMemory>
 }
 
 fn add_conditions(alloc: Global, facts: &mut Facts, members: &[Formula]) -> Result<(), NoMemory>
-    ensures { OnOk result
-        (facts_of facts.new.items ≡ with_conditions (parts_of members.now) (facts_of facts.old.items)) }
+    ensures { OnOk result (facts_of facts.new.items
+        ≡ with_conditions (parts_of members.now) (facts_of facts.old.items)) }
 {
     for member in members {
         if let Formula::Atom(atom) = member {
@@ -89,8 +89,8 @@ fn add_conditions(alloc: Global, facts: &mut Facts, members: &[Formula]) -> Resu
 
 /// Meets the known set of the polynomial with the condition's, or adds the condition.
 fn add_fact(alloc: Global, facts: &mut Facts, atom: &Atom) -> Result<(), NoMemory>
-    ensures { OnOk result
-        (facts_of facts.new.items ≡ with_fact atom.now.poly atom.now.signs (facts_of facts.old.items)) }
+    ensures { OnOk result (facts_of facts.new.items
+        ≡ with_fact atom.now.poly atom.now.signs (facts_of facts.old.items)) }
 {
     match known_at(facts, atom.poly()) {
         Some((place, known)) => {

@@ -7,7 +7,11 @@ mod facts;
 mod finishing;
 mod flattening;
 mod gathering;
+#[cfg(test)]
+mod rows;
 mod sameness;
 mod simplification;
+#[cfg(test)]
+mod tests;
 
 pub use simplification::simplify;

@@ -6,4 +6,5 @@ use Rattle.theory_simplify.proofs.finishing.stands_among.Given as goal
 
 abbrev pub invariant-loop-other : goal.invariant-loop-other
 invariant-loop-other l =
-    list_any (is_same (formula_of l.formula)) (map formula_of (drop l.other-index l.formulas)) ≡ list_any (is_same (formula_of l.formula)) (map formula_of l.formulas)
+    list_any (is_same (formula_of l.formula)) (map formula_of (drop l.other-index l.formulas))
+    ≡ list_any (is_same (formula_of l.formula)) (map formula_of l.formulas)

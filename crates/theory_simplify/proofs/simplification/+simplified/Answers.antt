@@ -35,7 +35,8 @@ members_under-loop-member-preserved t c =
     let rest = ap (λ Fs. parts_weight (parts_of Fs)) c.in-Some.ensures.steps.0 in
     let most = c.loop-member.invariant.lighter in
     record {
-      written = member_step c.args.all K done _ c.in-Some.member c.next.new.self.rest.items (formula_of c.in_ok-form.form) c.in_ok-form.ensures c.in_ok-splice.ensures
+      written = member_step c.args.all K done _ c.in-Some.member c.next.new.self.rest.items (formula_of c.in_ok-form.form)
+          c.in_ok-form.ensures c.in_ok-splice.ensures
           ∙ ap (λ (Fs : List Formula). done ++ members_under c.args.all K (waiting (parts_of Fs))) (sym c.in-Some.ensures.steps.0)
           ∙ c.loop-member.invariant.written;
       lighter = omega (arith, rest, most);
@@ -70,4 +71,5 @@ simplified_list-returns-in-None t c =
     let all = c.args.all in
     let K = facts_of c.args.facts.now in
     let leaves = subst (AreParts (open_parts all K (parts_of c.in_ok-flat.flat.items))) c.in-None.is c.in_ok-left.ensures in
-    c.decision.ensures ∙ decided_from all K (formulas_from (map formula_of c.args.members.items)) (parts_of c.in_ok-flat.flat.items) c.in_ok-flat.ensures leaves
+    c.decision.ensures
+    ∙ decided_from all K (formulas_from (map formula_of c.args.members.items)) (parts_of c.in_ok-flat.flat.items) c.in_ok-flat.ensures leaves
