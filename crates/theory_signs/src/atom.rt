@@ -50,7 +50,7 @@ impl Atom {
     }
 
     /// The same polynomial with these signs.
-    pub(crate) fn with_signs(&self, alloc: Global, signs: Signs) -> Result<Atom, NoMemory>
+    pub fn with_signs(&self, alloc: Global, signs: Signs) -> Result<Atom, NoMemory>
         ensures { IfOk result (λ a. a ≡ condition self.now.poly signs) }
     {
         let poly = self.poly.copy(alloc)?;

@@ -1,0 +1,6 @@
+mod SameLemmas
+mod PutLemmas
+mod WaitingLemmas
+mod FinishLemmas
+mod Weights
+mod FlatLemmas

@@ -1,0 +1,2 @@
+pub use Rattle.theory_elimination.specs.Simplified
+pub mod Parts

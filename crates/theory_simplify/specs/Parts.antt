@@ -1,0 +1,116 @@
+-- The members of a list of formulas as plain members, and the steps on them before they wait for facts.
+use Rattle.std.specs.Prelude.{◌≡◌, ℕ, suc, Bool, true, false, List, [], ◌∷◌, ◌++◌, map, Option, None, Some, Result, Ok, Err, if◌then◌else◌}
+use Rattle.std.specs.declared.vec.Vec.{Vec}
+use Rattle.std.specs.Global.{Global}
+use Rattle.std.specs.Option.{option_map, option_and_then}
+use Rattle.theory_method.specs.declared.signs.Signs.{Signs}
+use Rattle.theory_method.specs.Terms.{Monomial}
+use Rattle.theory_method.specs.Formula as plain
+use Rattle.theory_method.specs.Formula.{conjunction, disjunction, none, more}
+use Rattle.theory_elimination.specs.SameFormula.{is_same_poly}
+use Rattle.theory_elimination.specs.Facts.{Fact, Facts, judged}
+use Rattle.theory_elimination.specs.Simplified.{Part, Waiting, told, condition, other, as_part, by_facts, undecided, gathered, simplified_under, simplified_list, all_parts_of}
+use Rattle.theory_signs.specs.Condition.{Condition}
+use Rattle.theory_signs.specs.declared.formula.Formula.{Formula}
+use Rattle.theory_signs.specs.Plain.{formula_of}
+
+-- a formula as a member
+abbrev pub part_of : Formula → Part plain.Formula
+part_of F = as_part (formula_of F)
+
+abbrev pub parts_of : List Formula → List (Part plain.Formula)
+parts_of Fs = map part_of Fs
+
+abbrev pub parts_in : Vec Formula Global → List (Part plain.Formula)
+parts_in Fs = parts_of Fs.items
+
+-- an atom as a fact
+abbrev pub fact_of : Condition → Fact
+fact_of a = record { poly = a.poly; signs = a.signs }
+
+abbrev pub facts_of : List Condition → Facts
+facts_of known = map fact_of known
+
+-- a list waits for facts
+abbrev pub waiting_part : Part plain.Formula → Waiting
+waiting_part (told b) = told b
+waiting_part (condition P S) = condition P S
+waiting_part (other F) = other (λ K. simplified_under K F)
+
+abbrev pub waiting : List (Part plain.Formula) → List Waiting
+waiting ps = map waiting_part ps
+
+-- a list simplified under facts; what is no list stands
+abbrev pub member_form : Facts → plain.Formula → plain.Formula
+member_form K (conjunction Fs) = simplified_list true K (all_parts_of true Fs)
+member_form K (disjunction Fs) = simplified_list false K (all_parts_of false Fs)
+member_form K F = F
+
+-- the members of nested lists of one kind as one list
+abbrev mutual
+  pub flat_parts : Bool → plain.Formula → List (Part plain.Formula)
+  flat_parts true (conjunction Fs) = all_flat_parts true Fs
+  flat_parts false (disjunction Fs) = all_flat_parts false Fs
+  flat_parts all F = as_part F ∷ []
+
+  pub all_flat_parts : Bool → plain.Formulas → List (Part plain.Formula)
+  all_flat_parts all none = []
+  all_flat_parts all (more F Fs) = flat_parts all F ++ all_flat_parts all Fs
+
+-- the members that the facts leave open, before they wait for facts
+abbrev pub open_parts : Bool → Facts → List (Part plain.Formula) → Option (List (Part plain.Formula))
+open_parts all K ps = option_and_then (λ qs. undecided all (map (by_facts K) qs)) (gathered all ps)
+
+-- the set of an atom of the polynomial
+abbrev pub condition_on : List Monomial → Part plain.Formula → Option Signs
+condition_on P (condition Q S) = if is_same_poly Q P then Some S else None
+condition_on P (told b) = None
+condition_on P (other F) = None
+
+-- a set at the first place, or what is found at a later one
+abbrev pub first_or : Option Signs → Option (ℕ × Signs) → Option (ℕ × Signs)
+first_or (Some S) later = Some (0, S)
+first_or None later = option_map (λ h. (suc h.0, h.1)) later
+
+-- the place of the first atom of the polynomial, and its set
+abbrev pub held_at : List Monomial → List (Part plain.Formula) → Option (ℕ × Signs)
+held_at P [] = None
+held_at P (p ∷ ps) = first_or (condition_on P p) (held_at P ps)
+
+-- the place of the first fact on the polynomial, and its set
+abbrev pub known_at : List Monomial → Facts → Option (ℕ × Signs)
+known_at P [] = None
+known_at P (f ∷ K) = first_or (if is_same_poly f.poly P then Some f.signs else None) (known_at P K)
+
+-- the truth of a decided member
+abbrev pub truth_told : Part plain.Formula → Option Bool
+truth_told (told b) = Some b
+truth_told (condition P S) = None
+truth_told (other F) = None
+
+-- what the facts say of a member
+abbrev pub judged_part : Facts → Part plain.Formula → Option Bool
+judged_part K (told b) = None
+judged_part K (condition P S) = judged K P S
+judged_part K (other F) = None
+
+-- the members of a list of the kind, and else the formula itself
+abbrev pub opened : Bool → plain.Formula → Result plain.Formulas plain.Formula
+opened true (conjunction Fs) = Ok Fs
+opened false (disjunction Fs) = Ok Fs
+opened all F = Err F
+
+-- the same of results
+abbrev pub IsOpened : Bool → plain.Formula → Result (Vec Formula Global) Formula → Type 0
+IsOpened all F (Ok Fs) = opened all F ≡ Ok (plain.formulas_from (map formula_of Fs.items))
+IsOpened all F (Err G) = opened all F ≡ Err (formula_of G)
+
+-- a list that was made has these members, and there is none where the whole is decided
+abbrev pub AreParts : Option (List (Part plain.Formula)) → Option (Vec Formula Global) → Type 0
+AreParts wanted None = wanted ≡ None
+AreParts wanted (Some Fs) = wanted ≡ Some (parts_of Fs.items)
+
+-- whether an atom was put in, so that these are the members, or decides the whole
+abbrev pub IsPutIn : Option (List (Part plain.Formula)) → List Formula → Bool → Type 0
+IsPutIn wanted Fs true = wanted ≡ Some (parts_of Fs)
+IsPutIn wanted Fs false = wanted ≡ None

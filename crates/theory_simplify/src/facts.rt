@@ -1,0 +1,116 @@
+ghost use Rattle.std.specs.Prelude.{◌≡◌, OnOk, IfOk};
+ghost use Rattle.theory_elimination.specs.Facts.{known_set, is_within, judged, with_fact};
+ghost use Rattle.theory_elimination.specs.Simplified.{with_conditions, facts_within};
+ghost use Rattle.theory_simplify.specs.Parts.{facts_of, parts_of, known_at};
+
+use crate::sameness::is_same_poly;
+use std::alloc::Global;
+use theory_meaning::Sign;
+use theory_points::NoMemory;
+use theory_poly::Poly;
+use theory_signs::{Atom, Formula, Signs};
+
+/// Conditions that are known to hold, one a polynomial.
+pub type Facts = Vec<Atom>;
+
+/// What the facts say of a condition; None where they leave it open.
+pub fn judged(facts: &[Atom], atom: &Atom) -> Option<bool>
+    ensures { result ≡ judged (facts_of facts.now) atom.now.poly atom.now.signs }
+{
+    let known = known_set(facts, atom.poly())?;
+    if known.meet(atom.signs()).is_none() {
+        Some(false)
+    } else if is_within(known, atom.signs()) {
+        Some(true)
+    } else {
+        None
+    }
+}
+
+/// The set of the first fact on a polynomial.
+fn known_set(facts: &[Atom], poly: &Poly) -> Option<Signs>
+    ensures { result ≡ known_set poly.now (facts_of facts.now) }
+{
+    for fact in facts {
+        if is_same_poly(fact.poly(), poly) {
+            return Some(fact.signs());
+        }
+    }
+    None
+}
+
+/// Whether each sign of the first set is in the second.
+fn is_within(first: Signs, second: Signs) -> bool
+    ensures { result ≡ is_within first second }
+{
+    (!first.has(Sign::Minus) || second.has(Sign::Minus))
+        && (!first.has(Sign::Zero) || second.has(Sign::Zero))
+        && (!first.has(Sign::Plus) || second.has(Sign::Plus))
+}
+
+/// The facts for the members of a list: in a conjunction also its atoms.
+pub fn facts_within(
+    alloc: Global,
+    all: bool,
+    facts: &[Atom],
+    members: &[Formula],
+) -> Result<Facts, NoMemory>
+    ensures { IfOk result (λ K.
+        facts_of K.items ≡ facts_within all (parts_of members.now) (facts_of facts.now)) }
+{
+    let mut within = copied(alloc, facts)?;
+    if all {
+        add_conditions(alloc, &mut within, members)?;
+    }
+    Ok(within)
+}
+
+fn copied(alloc: Global, facts: &[Atom]) -> Result<Facts, NoMemory>
+    ensures { IfOk result (λ K. K.items ≡ facts.now) }
+{
+    let mut all = Vec::new(alloc);
+    for fact in facts {
+        all.push(fact.with_signs(alloc, fact.signs())?)?;
+    }
+    Ok(all)
+}
+
+fn add_conditions(alloc: Global, facts: &mut Facts, members: &[Formula]) -> Result<(), NoMemory>
+    ensures { OnOk result (facts_of facts.new.items
+        ≡ with_conditions (parts_of members.now) (facts_of facts.old.items)) }
+{
+    for member in members {
+        if let Formula::Atom(atom) = member {
+            add_fact(alloc, facts, atom)?;
+        }
+    }
+    Ok(())
+}
+
+/// Meets the known set of the polynomial with the condition's, or adds the condition.
+fn add_fact(alloc: Global, facts: &mut Facts, atom: &Atom) -> Result<(), NoMemory>
+    ensures { OnOk result (facts_of facts.new.items
+        ≡ with_fact atom.now.poly atom.now.signs (facts_of facts.old.items)) }
+{
+    match known_at(facts, atom.poly()) {
+        Some((place, known)) => {
+            if let Some(met) = known.meet(atom.signs()) {
+                facts[place] = atom.with_signs(alloc, met)?;
+            }
+        }
+        None => facts.push(atom.with_signs(alloc, atom.signs())?)?,
+    }
+    Ok(())
+}
+
+/// The place of the first fact on a polynomial, and its set.
+fn known_at(facts: &[Atom], poly: &Poly) -> Option<(usize, Signs)>
+    ensures { result ≡ known_at poly.now (facts_of facts.now) }
+{
+    for (place, fact) in facts.iter().enumerate() {
+        if is_same_poly(fact.poly(), poly) {
+            return Some((place, fact.signs()));
+        }
+    }
+    None
+}

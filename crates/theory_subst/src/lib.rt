@@ -1,0 +1,13 @@
+//! Elimination of one symbol by virtual substitution of test points.
+//!
+//! A contract sees a formula as its plain tree, and a test point as the plain one that it stands for
+//! (`point_of` of `specs/Points.antt`). Read `branch` first.
+#![tactic(auto)]
+
+mod elimination;
+mod substitution;
+mod test_point;
+
+pub use elimination::branch;
+pub use substitution::substitute;
+pub use test_point::{TestPoint, TestPoints, test_points};
