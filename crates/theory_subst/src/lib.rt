@@ -5,6 +5,7 @@
 #![tactic(auto)]
 
 mod elimination;
+mod line;
 mod substitution;
 mod test_point;
 
