@@ -53,8 +53,8 @@ fn line_at(
             Ok(make_atom(alloc, &there, along(*sign, signs))?)
         }
         TestPoint::Before(a, b, sign) => {
-            let there = Poly::cross(alloc, a, base, slope, b)?;
-            Ok(by_sign(alloc, &there, along(*sign, signs), slope, signs.mirror())?)
+            let at_root = Poly::cross(alloc, a, base, slope, b)?;
+            Ok(by_sign(alloc, &at_root, along(*sign, signs), slope, signs.mirror())?)
         }
     }
 }

@@ -9,4 +9,4 @@ returns-in_ok-make_atom-in-Root-clause-wide c =
 
 pub returns-in_ok-by_sign-in-Before-clause-wide : goal.returns-in_ok-by_sign-in-Before-clause-wide
 returns-in_ok-by_sign-in-Before-clause-wide c =
-    subst (λ r. ¬ IsWideLine (point_of r) c.args.slope.now c.args.base.now) (sym c.in-Before.is) c.in_ok-there-in-Before.ensures.wide
+    subst (λ r. ¬ IsWideLine (point_of r) c.args.slope.now c.args.base.now) (sym c.in-Before.is) c.in_ok-at_root-in-Before.ensures.wide
