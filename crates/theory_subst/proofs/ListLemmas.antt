@@ -1,5 +1,5 @@
 -- A list of formulas at a test point, member by member.
-use Rattle.std.proofs.Common.{◌≡◌, ℕ, ◌+◌, ◌<◌, List, [], ◌∷◌, ◌++◌, length, map, drop, get_or, refl, sym, ap, ◌∙◌, subst, inl, inr, ⊎_elim}
+use Rattle.std.proofs.Common.{◌≡◌, ℕ, ◌+◌, ◌<◌, List, [], ◌∷◌, ◌++◌, length, map, drop, get_or, refl, sym, ap, ◌∙◌, subst, inr, ⊎_elim}
 use Rattle.std.proofs.lemmas.List.{at_drop_more, append_assoc, map-append}
 use Rattle.theory_method.specs.Formula as plain
 use Rattle.theory_method.specs.Formula.{EachAtomOfAll, formulas_from}
@@ -11,12 +11,7 @@ use Rattle.theory_signs.specs.declared.formula.Formula.{Formula}
 use Rattle.theory_signs.specs.Plain.{formula_of}
 use Rattle.theory_subst.specs.Lines.{IsWideAmong}
 
--- a list is wide where its first member is, or the others are
-wide_first : (x : ℕ) (p : TestPoint) (F : plain.Formula) (Fs : plain.Formulas) → IsWideAt x p F → IsWideAmong x p (plain.more F Fs)
-wide_first x infinity F Fs h = h
-wide_first x (root a b s) F Fs h = inl h
-wide_first x (before a b s) F Fs h = inl h
-
+-- a list is wide where its members behind the first are, and only there if the first isn't
 wide_others : (x : ℕ) (p : TestPoint) (F : plain.Formula) (Fs : plain.Formulas) → IsWideAmong x p Fs → IsWideAmong x p (plain.more F Fs)
 wide_others x infinity F Fs h = h
 wide_others x (root a b s) F Fs h = inr h
