@@ -5,9 +5,16 @@
 #![tactic(auto)]
 
 mod elimination;
+mod line;
+mod linearity;
+#[cfg(test)]
+mod notation;
 mod substitution;
+#[cfg(test)]
+mod substitution_tests;
 mod test_point;
 
 pub use elimination::branch;
+pub use linearity::is_linear;
 pub use substitution::substitute;
 pub use test_point::{TestPoint, TestPoints, test_points};
