@@ -280,3 +280,16 @@ fn wide_members(rt: HostRuntime) -> Result<(), Fail> {
     assert!(rt; is_wide(alloc, 0, &both, &there), "behind false");
     Ok(())
 }
+
+/// x^2 - y is linear in y alone, also as the last member of a list in a list.
+#[test]
+fn linear_formulas(rt: HostRuntime) -> Result<(), Fail> {
+    let alloc = rt.alloc();
+    let square = make_line(alloc, &[(1, 2, 0), (-1, 0, 1)])?;
+    let inner = Formula::And(vec![in alloc; Formula::False, square]?);
+    let all = Formula::Or(vec![in alloc; difference(alloc, Signs::Neg)?, inner]?);
+    assert!(rt; !is_linear(0, &all), "x");
+    assert!(rt; is_linear(1, &all), "y");
+    assert!(rt; is_linear(2, &all), "a symbol that doesn't occur");
+    Ok(())
+}
