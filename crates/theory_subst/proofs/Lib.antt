@@ -1,1 +1,9 @@
 pub mod SplitLemmas
+pub mod SameLemmas
+pub mod LineLemmas
+pub mod EndLemmas
+pub mod NewPoints
+pub mod EquationLemmas
+pub mod MemberLemmas
+pub mod PlanLemmas
+pub mod BranchLemmas

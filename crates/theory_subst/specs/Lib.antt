@@ -5,3 +5,5 @@ pub use Rattle.theory_elimination.specs.Elimination
 pub use Rattle.theory_elimination.specs.Widths
 pub mod Points
 pub mod Answers
+pub mod Equations
+pub mod Plans

@@ -5,8 +5,12 @@
 #![tactic(auto)]
 
 mod elimination;
+mod ends;
+mod sameness;
+mod slope;
 mod substitution;
 mod test_point;
+mod top_equation;
 
 pub use elimination::branch;
 pub use substitution::substitute;
