@@ -39,7 +39,7 @@ pub use fault::LowerFault;
 pub use formula::{Formula, Formulas};
 pub use listing::is_listed;
 pub use lowering::lower;
-pub use making::make_atom;
+pub use making::{constant_sign, make_atom};
 pub use naming::is_named;
 pub use negation::negate;
 pub use theory_method::Signs;

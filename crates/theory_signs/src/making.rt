@@ -35,7 +35,7 @@ pub fn decision(truth: bool) -> Formula
 }
 
 /// The sign of a polynomial without symbols; None where some symbol occurs.
-fn constant_sign(poly: &Poly) -> Option<Sign>
+pub fn constant_sign(poly: &Poly) -> Option<Sign>
     ensures value { MatchOption result (HasSymbol poly.now)
         (λ s. IsConstant poly.now × (s ≡ sign_of_whole (coefficient_at poly.now no_powers))) }
     ensures ordered { IsPolynomial poly.now }

@@ -1,3 +1,11 @@
 pub mod SplitLemmas
-pub mod LineLemmas
+pub mod AtomLemmas
 pub mod ListLemmas
+pub mod SameLemmas
+pub mod LineLemmas
+pub mod EndLemmas
+pub mod NewPoints
+pub mod EquationLemmas
+pub mod MemberLemmas
+pub mod PlanLemmas
+pub mod BranchLemmas

@@ -6,3 +6,5 @@ pub use Rattle.theory_elimination.specs.Widths
 pub mod Points
 pub mod Answers
 pub mod Lines
+pub mod Equations
+pub mod Plans

@@ -5,14 +5,18 @@
 #![tactic(auto)]
 
 mod elimination;
+mod ends;
 mod line;
 mod linearity;
 #[cfg(test)]
 mod notation;
+mod sameness;
+mod slope;
 mod substitution;
 #[cfg(test)]
 mod substitution_tests;
 mod test_point;
+mod top_equation;
 
 pub use elimination::branch;
 pub use linearity::is_linear;

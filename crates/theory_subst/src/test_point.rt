@@ -4,6 +4,7 @@ ghost use Rattle.theory_elimination.specs.Elimination.{IsLinear};
 ghost use Rattle.theory_signs.specs.Plain.{formula_of};
 ghost use Rattle.theory_subst.specs.Points.{points_of};
 
+use crate::ends::add_ends;
 use std::alloc::Global;
 use theory_meaning::Sign;
 use theory_points::NoMemory;
@@ -29,5 +30,8 @@ pub fn test_points(alloc: Global, x: u8, formula: &Formula) -> Result<TestPoints
     requires linear { IsLinear x (formula_of formula.now) }
     ensures { IfOk result (λ points. points_of points.items ≡ written.test_points x (formula_of formula.now)) }
 {
-    Err(NoMemory)
+    let mut points = Vec::new(alloc);
+    points.push(TestPoint::Infinity)?;
+    add_ends(alloc, x, formula, &mut points)?;
+    Ok(points)
 }

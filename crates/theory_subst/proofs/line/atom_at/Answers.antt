@@ -1,7 +1,7 @@
 use Rattle.std.proofs.Common.{subst}
 use Rattle.theory_method.specs.Polynomial.{IsPolynomial}
 use Rattle.theory_subst.specs.Points.{point_of}
-use Rattle.theory_subst.proofs.LineLemmas.{line_by_parts, wide_by_parts}
+use Rattle.theory_subst.proofs.AtomLemmas.{line_by_parts, wide_by_parts}
 use Rattle.theory_subst.proofs.line.atom_at.Goals as goal
 
 pub returns-clause-written : goal.returns-clause-written

@@ -1,7 +1,7 @@
 use Rattle.std.proofs.Common.{map, drop, ◌+◌}
 use Rattle.theory_signs.specs.Plain.{formula_of}
 use Rattle.theory_subst.specs.Points.{point_of}
-use Rattle.theory_subst.proofs.LineLemmas.{atom_is_wide, holds_by_degree, wide_as_asked}
+use Rattle.theory_subst.proofs.AtomLemmas.{atom_is_wide, holds_by_degree, wide_as_asked}
 use Rattle.theory_subst.proofs.ListLemmas.{drop_step, reached_more, grown_by_one}
 use Rattle.theory_subst.proofs.substitution.+substituted.Goals as goal
 
