@@ -53,7 +53,8 @@ fn simplified_list(
         Some(left) => {
             let within = facts_within(alloc, all, facts, &left)?;
             let simple = members_under(alloc, all, &within, left)?;
-            finished(alloc, all, gathered(alloc, all, simple)?)
+            let together = gathered(alloc, all, simple)?;
+            finished(alloc, all, together)
         }
         None => Ok(decision(!all)),
     }

@@ -51,19 +51,19 @@ simplified_list-members_under-requires t c =
     let same = weight_of_parts Fs in
     (omega (arith, c.decreases, below, same), tt)
 
-pub simplified_list-returns-in_ok-gathered-in-Some : goal.simplified_list-returns-in_ok-gathered-in-Some
-simplified_list-returns-in_ok-gathered-in-Some t c =
+pub simplified_list-returns-in_ok-together-in-Some : goal.simplified_list-returns-in_ok-together-in-Some
+simplified_list-returns-in_ok-together-in-Some t c =
     let all = c.args.all in
     let K = facts_of c.args.facts.now in
     let left = c.in-Some.left.items in
     let leaves = subst (AreParts (open_parts all K (parts_of c.in_ok-flat.flat.items))) c.in-Some.is c.in_ok-left.ensures in
     subst (λ G. IfOk c.finished.result (λ F. formula_of F ≡ G))
     (simplified_from all K (formulas_from (map formula_of c.args.members.items)) (parts_of c.in_ok-flat.flat.items) (parts_of left)
-    (parts_of c.in_ok-simple-in-Some.simple.items) (facts_of c.in_ok-within-in-Some.within.items) (option_map parts_in c.in_ok-gathered-in-Some.field-0)
+    (parts_of c.in_ok-simple-in-Some.simple.items) (facts_of c.in_ok-within-in-Some.within.items) (option_map parts_in c.in_ok-together-in-Some.together)
     c.in_ok-flat.ensures leaves
     (c.in_ok-within-in-Some.ensures ∙ ap (λ (Fs : List Formula). facts_within all (parts_of Fs) K) c.deref.ensures.value)
     (c.in_ok-simple-in-Some.ensures ∙ ap (λ (L : List Condition). members_under all (facts_of L) (waiting (parts_of left))) c.deref-in-Some.ensures.value)
-    (parts_are _ c.in_ok-gathered-in-Some.field-0 c.in_ok-gathered-in-Some.ensures))
+    (parts_are _ c.in_ok-together-in-Some.together c.in_ok-together-in-Some.ensures))
     c.finished.ensures
 
 pub simplified_list-returns-in-None : goal.simplified_list-returns-in-None
