@@ -6,6 +6,7 @@
 
 mod elimination;
 mod ends;
+mod linearity;
 mod sameness;
 mod slope;
 mod substitution;
@@ -13,5 +14,6 @@ mod test_point;
 mod top_equation;
 
 pub use elimination::branch;
+pub use linearity::is_linear;
 pub use substitution::substitute;
 pub use test_point::{TestPoint, TestPoints, test_points};
