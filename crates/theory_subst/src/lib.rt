@@ -7,10 +7,14 @@
 mod elimination;
 mod ends;
 mod linearity;
+#[cfg(test)]
+mod rows;
 mod sameness;
 mod slope;
 mod substitution;
 mod test_point;
+#[cfg(test)]
+mod tests;
 mod top_equation;
 
 pub use elimination::branch;
