@@ -6,7 +6,7 @@ use Rattle.std.proofs.lemmas.List.{append_assoc, drop_all}
 use Rattle.std.proofs.Math.Seq.{drop-cons}
 use Rattle.theory_method.specs.declared.signs.Signs.{Signs}
 use Rattle.theory_method.specs.Polynomial.{Monomial, degree_in}
-use Rattle.theory_method.specs.Formula.{formulas_from, EachAtom, EachAtomOfAll}
+use Rattle.theory_method.specs.Formula.{formulas_from, EachAtomOfAll}
 use Rattle.theory_method.specs.FormulaAtoms.{atoms_of, atoms_of_all}
 use Rattle.theory_elimination.specs.TestPoint.{TestPoint, is_constant, slope_in, base_in, is_same_point, ends_by_slope, ends_of_atom, ends_of_atoms}
 use Rattle.theory_elimination.specs.Elimination.{IsLinearAtom}
@@ -55,10 +55,6 @@ pub rest_from : (i : ℕ) (ms : List made.Formula) (m : made.Formula) → i < le
 rest_from i ms m h is =
     let next : suc i ≡ i + 1 = omega arith in
     drop-cons ms i m h ∙ ap₂ (λ (n : made.Formula) (ns : List made.Formula). n ∷ ns) (sym is) (ap (λ n. drop n ms) next)
-
-pub next_is_linear : (x i : ℕ) (ms : List made.Formula) (m : made.Formula) → i < length ms → m ≡ get_or ms i m → AreLinear x (drop i ms)
-    → EachAtom (IsLinearAtom x) (formula_of m)
-next_is_linear x i ms m h is linear = (subst (AreLinear x) (rest_from i ms m h is) linear).0
 
 pub adds_next : (x i : ℕ) (ms : List made.Formula) (m : made.Formula) (first seen later : List TestPoint) → i < length ms → m ≡ get_or ms i m
     → AddsRest x ms (drop i ms) first seen → later ≡ with_new seen (ends_of_atoms x (atoms_of (formula_of m)))

@@ -1,22 +1,13 @@
 -- The first equation of a list, and the others.
-use Rattle.std.proofs.Common.{◌≡◌, ℕ, zero, suc, ◌+◌, ◌<◌, ◌≤◌, Bool, true, false, List, [], ◌∷◌, ◌++◌, length, get_or, take, drop, not, refl, sym, ap, ap₂, ◌∙◌, subst, arith, Option, None, Some}
+use Rattle.std.proofs.Common.{◌≡◌, ℕ, zero, suc, ◌+◌, ◌<◌, Bool, true, false, List, [], ◌∷◌, ◌++◌, length, get_or, take, drop, not, refl, sym, ap, ap₂, ◌∙◌, subst, arith, Option, None, Some}
 use Rattle.std.specs.Prelude.{◌||◌}
-use Rattle.std.proofs.lemmas.List.{drop_all}
 use Rattle.std.proofs.Math.Seq.{take-suc, drop-cons}
 use Rattle.theory_method.specs.Polynomial.{Monomial}
-use Rattle.theory_method.specs.Formula.{Formula, always}
+use Rattle.theory_method.specs.Formula.{Formula}
 use Rattle.theory_elimination.specs.TestPoint.{slope_in, is_constant}
-use Rattle.theory_elimination.specs.Branches.{Taken, equation_if, equation_of, if_plain, taken_behind, taken_at, or_else, others_of}
+use Rattle.theory_elimination.specs.Branches.{Taken, equation_if, equation_of, if_plain, taken_behind, taken_at, or_else}
 use Rattle.theory_subst.specs.Equations.{equation_with, without, IsLine, ArePartsOf, IsFirst}
 use Rattle.theory_subst.specs.declared.top_equation.Found.{Found}
-use Rattle.theory_signs.specs.declared.formula.Formula as source
-use Rattle.theory_signs.specs.Plain.{formula_of}
-use Rattle.theory_subst.specs.Answers.{IsTopEquation}
-
--- slope and base of an equation that is wanted
-pub no_equation : (plain : Bool) (x : ℕ) (P : List Monomial) (F : Formula) → equation_of x F ≡ equation_if false P → ArePartsOf x (equation_with plain x F) None
-no_equation true x P F h = subst (λ e. ArePartsOf x (if_plain x e) None) (sym h) tt
-no_equation false x P F h = subst (λ e. ArePartsOf x e None) (sym h) tt
 
 pub wanted_parts : (plain : Bool) (x : ℕ) (P a b : List Monomial) (F : Formula) → equation_of x F ≡ equation_if true P → IsLine x P a b
     → true ≡ (not plain || is_constant a) → ArePartsOf x (equation_with plain x F) (Some (a, b))
@@ -81,12 +72,6 @@ sought_on plain x Fs i F h is before none =
           ∙ before.rest;
     }
 
-pub sought_all : (plain : Bool) (x : ℕ) (Fs : List Formula) (i : ℕ) → length Fs ≤ i → IsSought (equation_with plain x) Fs i
-    → IsFirst x Fs (taken_behind (equation_with plain x) [] Fs) None
-sought_all plain x Fs i h before =
-    let is_one = equation_with plain x in
-    subst (λ t. IsFirst x Fs t None) (ap (taken_behind is_one (take i Fs)) (sym (drop_all i Fs h)) ∙ before.rest) tt
-
 found_parts : (x : ℕ) (Fs : List Formula) (f : Found) (e : Option (List Monomial)) (next : Option Taken) → f.place < length Fs
     → ArePartsOf x e (Some (f.slope, f.base)) → IsFirst x Fs (taken_at e (without f.place Fs) next) (Some f)
 found_parts x Fs f None next h parts = absurd parts
@@ -99,16 +84,6 @@ found_at plain x Fs f F h is before parts =
     let is_one = equation_with plain x in
     let next = taken_behind is_one (take (f.place + 1) Fs) (drop (f.place + 1) Fs) in
     subst (λ t. IsFirst x Fs t (Some f)) (sym (from_place is_one Fs f.place F h is) ∙ before.rest) (found_parts x Fs f (is_one F) next h parts)
-
--- the first of one search, and else that of the other
-pub first_of_two : (x : ℕ) (Fs : List Formula) (t u : Option Taken) (f : Found) → IsFirst x Fs t (Some f) → IsFirst x Fs (or_else t u) (Some f)
-first_of_two x Fs None u f h = absurd h
-first_of_two x Fs (Some t) u f h = h
-
-pub second_of_two : (x : ℕ) (Fs : List Formula) (t u : Option Taken) (r : Option Found) → IsFirst x Fs t None → IsFirst x Fs u r
-    → IsFirst x Fs (or_else t u) r
-second_of_two x Fs None u r h k = k
-second_of_two x Fs (Some t) u r h k = absurd h
 
 -- a formula alone is taken where it is an equation
 lone_if : (b : Bool) (P : List Monomial)
@@ -123,22 +98,3 @@ lone_of x (Some P) = lone_if (is_constant (slope_in x P)) P
 pub lone_is : (x : ℕ) (F : Formula)
     → or_else (taken_behind (equation_with true x) [] (F ∷ [])) (taken_behind (equation_with false x) [] (F ∷ [])) ≡ taken_behind (equation_with false x) [] (F ∷ [])
 lone_is x F = lone_of x (equation_of x F)
-
-pub lone_parts : (x : ℕ) (e : Option (List Monomial)) (a b : List Monomial) (F : source.Formula) → ArePartsOf x e (Some (a, b)) → formula_of F ≡ always
-    → IsTopEquation x (taken_at e [] None) (Some (record { slope = a; base = b; others = F }))
-lone_parts x None a b F h is = absurd h
-lone_parts x (Some P) a b F h is = record { line = h; others = is }
-
-pub lone_none : (x : ℕ) (e : Option (List Monomial)) → ArePartsOf x e None → IsTopEquation x (taken_at e [] None) None
-lone_none x None h = tt
-lone_none x (Some P) h = absurd h
-
--- the equation at its place, with the others together
-pub equation_found : (x : ℕ) (Fs : List Formula) (t : Option Taken) (f : Found) (F : source.Formula) → IsFirst x Fs t (Some f)
-    → formula_of F ≡ others_of (without f.place Fs) → IsTopEquation x t (Some (record { slope = f.slope; base = f.base; others = F }))
-equation_found x Fs None f F h is = absurd h
-equation_found x Fs (Some t) f F h is = record { line = h.line; others = is ∙ ap others_of (sym h.others) }
-
-pub no_equation_found : (x : ℕ) (Fs : List Formula) (t : Option Taken) → IsFirst x Fs t None → IsTopEquation x t None
-no_equation_found x Fs None h = tt
-no_equation_found x Fs (Some t) h = absurd h

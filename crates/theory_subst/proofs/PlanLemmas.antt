@@ -1,8 +1,8 @@
 -- The branch that is written by the k-th plan.
-use Rattle.std.proofs.Common.{◌≡◌, ℕ, zero, suc, ◌<◌, ◌≤◌, List, [], ◌∷◌, length, get_or, map, arith, sym, ap, ◌∙◌, subst, inl, inr, Option, Some, None, Err}
+use Rattle.std.proofs.Common.{◌≡◌, ℕ, zero, suc, ◌<◌, List, [], ◌∷◌, length, get_or, map, arith, sym, ap, ◌∙◌, subst, Option, Some, None, Err}
 use Rattle.std.specs.Prelude.{slice_get}
 use Rattle.std.specs.Option.{option_map}
-use Rattle.std.proofs.lemmas.Option.{slice_get_cases, slice_get-map}
+use Rattle.std.proofs.lemmas.Option.{slice_get-map}
 use Rattle.theory_points.specs.declared.limit.Limit.{Limit}
 use Rattle.theory_points.specs.declared.limit.Limit.TheVariants.{Wide, Memory}
 use Rattle.theory_elimination.specs.Branches.{Plan, IsWrittenBy, plan_at}
@@ -33,13 +33,6 @@ kth_not_wide x k plans plan is not_wide = λ w. not_wide (subst (IsWidePlan x) (
 
 some_or_none : (p : Plan) → Some p ≡ None → ⊥
 some_or_none p e = absurd cc
-
-pub past_last : (plans : List Plan) (k : ℕ) → slice_get plans k ≡ None → length plans ≤ k
-past_last plans k is =
-    elim (slice_get_cases plans k).1 [
-      | inl found ↦ absurd (some_or_none found.0 (sym found.2 ∙ is))
-      | inr past ↦ past.0
-    ]
 
 pub past_not_wide : (x : ℕ) (plans : List Plan) (k : ℕ) → slice_get plans k ≡ None → ¬ IsWideKth x plans k
 past_not_wide x plans k is = λ w. some_or_none w.0 (sym w.1 ∙ is)

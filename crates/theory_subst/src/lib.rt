@@ -10,12 +10,16 @@ mod line;
 mod linearity;
 #[cfg(test)]
 mod notation;
+#[cfg(test)]
+mod rows;
 mod sameness;
 mod slope;
 mod substitution;
 #[cfg(test)]
 mod substitution_tests;
 mod test_point;
+#[cfg(test)]
+mod tests;
 mod top_equation;
 
 pub use elimination::branch;
