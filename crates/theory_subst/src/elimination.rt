@@ -34,11 +34,13 @@ pub fn branch(alloc: Global, x: u8, formula: &Formula, k: u32) -> Result<Option<
 
     // A branch is true only where some value of the symbol makes the formula true.
     ensures sound { IfOk result (λ found. IfSome found (λ G. (p : Values) →
-        IsTrueAt p (formula_of G) → (v : Fraction) × IsTrueAt (with_value x v p) (formula_of formula.now))) }
+        IsTrueAt p (formula_of G) →
+        (v : Fraction) × IsTrueAt (with_value x v p) (formula_of formula.now))) }
 
     // Past the last, each point of the formula is one of some branch before.
     ensures complete { IfOk result (λ found. IfNone found ((p : Values) →
-        IsTrueAt p (formula_of formula.now) → (j : ℕ) × (j < k) × BranchIsTrueAt x (formula_of formula.now) p j)) }
+        IsTrueAt p (formula_of formula.now) →
+        (j : ℕ) × (j < k) × BranchIsTrueAt x (formula_of formula.now) p j)) }
 
     // Wide exactly where a cross product of this branch passes a limit.
     ensures wide { WideWhere (IsWideBranch x (formula_of formula.now) k) result }

@@ -28,7 +28,8 @@ pub type TestPoints = Vec<TestPoint>;
 pub fn test_points(alloc: Global, x: u8, formula: &Formula) -> Result<TestPoints, NoMemory>
     requires symbol { x < 32 }
     requires linear { IsLinear x (formula_of formula.now) }
-    ensures { IfOk result (λ points. points_of points.items ≡ written.test_points x (formula_of formula.now)) }
+    ensures { IfOk result (λ points.
+        points_of points.items ≡ written.test_points x (formula_of formula.now)) }
 {
     let mut points = Vec::new(alloc);
     points.push(TestPoint::Infinity)?;
