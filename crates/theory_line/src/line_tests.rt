@@ -100,16 +100,20 @@ fn read_text(alloc: Global, line: &[u8]) -> Result<Line, ParseFault> {
     parse_line(alloc, &scanned.tokens)
 }
 
+fn tell_edit(alloc: Global, text: &mut Bytes, edit: &Op) -> Result<(), NoMemory> {
+    match edit {
+        Op::Put(line) => {
+            text.extend(b"put ")?;
+            tell_line(alloc, text, line)
+        }
+        Op::Drop(key) => tell_name(text, b"drop ", key),
+    }
+}
+
 fn told_edit(alloc: Global, line: &[u8]) -> Result<Bytes, ParseFault> {
     let read = read_edit(alloc, line)?;
     let mut text = Bytes::new(alloc);
-    match &read {
-        Op::Put(put) => {
-            text.extend(b"put ")?;
-            tell_line(alloc, &mut text, put)?;
-        }
-        Op::Drop(key) => tell_name(&mut text, b"drop ", key)?,
-    }
+    tell_edit(alloc, &mut text, &read)?;
     Ok(text)
 }
 
