@@ -7,7 +7,8 @@ use Rattle.theory_method.specs.Formula.{IsTrueAt, formulas_list, formulas_from}
 use Rattle.theory_method.specs.Formula as tree
 use Rattle.theory_elimination.specs.TestPoint.{is_constant, test_points, slope_in, base_in}
 use Rattle.theory_elimination.specs.Branches.{Taken, Plan, plan_at, plans_by, root_plans, branch_plans, top_equation, equation_of, plain_equation_of, taken_behind, or_else, members_of}
-use Rattle.theory_elimination.specs.Elimination.{with_value, IsLinear, IsLinearAtom, BranchIsTrueAt}
+use Rattle.theory_elimination.specs.Elimination.{with_value, IsLinear, IsLinearAtom, IsFree, IsLevelBranch, BranchIsTrueAt}
+use Rattle.theory_elimination.proofs.FreeBranches.{branch_free}
 use Rattle.theory_elimination.proofs.TopEquations.{equation_each}
 use Rattle.theory_elimination.proofs.BranchLaws.{branch_has_value, some_branch_is_true}
 use Rattle.theory_signs.specs.declared.atom.Atom.{Atom}
@@ -92,3 +93,10 @@ branch_complete x k F (Ok (Some G)) linear h = tt
 branch_complete x k F (Ok None) linear h =
     λ p t. let found = some_branch_is_true x p F linear t in (found.0, earlier found.0 (length (branch_plans x F)) k found.1 h, found.2)
 branch_complete x k F (Err e) linear h = tt
+
+-- the symbol is in none but the third of an equation
+pub branch_is_free : (x k : ℕ) (F : tree.Formula) (result : Result (Option Formula) Limit) → IfOk result (IsKthBranch x F k)
+    → IfOk result (λ found. IfSome found (λ G. (IsLevelBranch x F k → ⊥) → IsFree x (formula_of G)))
+branch_is_free x k F (Ok (Some G)) h = λ n. branch_free x F k (formula_of G) h n
+branch_is_free x k F (Ok None) h = tt
+branch_is_free x k F (Err e) h = tt

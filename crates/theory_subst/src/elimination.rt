@@ -8,7 +8,7 @@ ghost use Rattle.theory_elimination.specs.TestPoint.{is_constant};
 ghost use Rattle.theory_elimination.specs.TestPoint as written;
 ghost use Rattle.theory_elimination.specs.Branches.{IsGuarded, IsLevel, IsWrittenBy, only, plan_at, root_plans};
 ghost use Rattle.theory_elimination.specs.Substituted as plain;
-ghost use Rattle.theory_elimination.specs.Elimination.{with_value, IsLinear, BranchIsTrueAt};
+ghost use Rattle.theory_elimination.specs.Elimination.{with_value, IsLinear, IsFree, IsLevelBranch, BranchIsTrueAt};
 ghost use Rattle.theory_elimination.specs.Widths.{IsWideAt, IsWidePlan, IsWideBranch};
 ghost use Rattle.theory_poly.specs.Answers.{WideWhere};
 ghost use Rattle.theory_signs.specs.Plain.{formula_of};
@@ -41,6 +41,10 @@ pub fn branch(alloc: Global, x: u8, formula: &Formula, k: u32) -> Result<Option<
     ensures complete { IfOk result (λ found. IfNone found ((p : Values) →
         IsTrueAt p (formula_of formula.now) →
         (j : ℕ) × (j < k) × BranchIsTrueAt x (formula_of formula.now) p j)) }
+
+    // The symbol occurs in no branch but the third of an equation.
+    ensures free { IfOk result (λ found. IfSome found (λ G.
+        ¬ IsLevelBranch x (formula_of formula.now) k → IsFree x (formula_of G))) }
 
     // Wide exactly where a cross product of this branch passes a limit.
     ensures wide { WideWhere (IsWideBranch x (formula_of formula.now) k) result }

@@ -4,8 +4,12 @@
 //! (`point_of` of `specs/Points.antt`). Read `branch` first.
 #![tactic(auto)]
 
+#[cfg(test)]
+mod branch_tests;
 mod elimination;
 mod ends;
+#[cfg(test)]
+mod grid_tests;
 mod line;
 mod linearity;
 #[cfg(test)]

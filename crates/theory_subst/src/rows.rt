@@ -1,10 +1,11 @@
+use crate::elimination::branch;
 use crate::linearity::is_linear;
 use crate::test_point::{TestPoint, TestPoints, test_points};
 use std::alloc::Global;
 use theory_meaning::Sign;
 use theory_points::Limit;
 use theory_poly::Poly;
-use theory_signs::{Formula, Signs, make_atom};
+use theory_signs::{Formula, Formulas, Signs, make_atom};
 
 /// A coefficient with the exponents of symbols 0, 1 and 2.
 pub type Row = (i64, u8, u8, u8);
@@ -85,4 +86,20 @@ pub fn are_ends(points: &TestPoints, slope: &[Row], base: &[Row], ends: &[End]) 
         }
     }
     true
+}
+
+pub fn push(members: &mut Formulas, formula: Formula) -> Result<(), Limit> {
+    match members.push(formula) {
+        Ok(()) => Ok(()),
+        Err(_) => Err(Limit::Memory),
+    }
+}
+
+/// The k-th branch, if each atom is linear in the symbol.
+pub fn kth(alloc: Global, x: u8, formula: &Formula, k: u32) -> Result<Option<Formula>, Limit> {
+    if x < 32 && is_linear(x, formula) {
+        branch(alloc, x, formula, k)
+    } else {
+        Err(Limit::Memory)
+    }
 }
