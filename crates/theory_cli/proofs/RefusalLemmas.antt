@@ -1,7 +1,5 @@
 -- Refusals of bytes, from what was found of their text, their model and its form.
-use Rattle.std.proofs.Common.{◌≡◌, ◌⊎◌, ⊎_elim, ℕ, suc, ◌-◌, List, [], ◌∷◌, length, Some, sym, ap, ◌∙◌, subst, arith}
-use Rattle.std.specs.List.{slice_get}
-use Rattle.std.proofs.lemmas.Option.{get_or_from_slice_get}
+use Rattle.std.proofs.Common.{◌≡◌, ◌⊎◌, ⊎_elim, ℕ, ◌-◌, List, Some, subst}
 use Rattle.theory_meaning.specs.declared.words.ModelKind.TheVariants as model_kind
 use Rattle.theory_meaning.specs.Edit.{IsModel}
 use Rattle.theory_meaning.specs.ModelFault as meaning

@@ -1,7 +1,5 @@
 -- Why the bytes of a file aren't answered, and what is told of it behind the file's name. docs/PROTOCOL.md has it in words.
 use Rattle.std.specs.Prelude.{◌≡◌, ℕ, max, List, ◌++◌, Some, length, codes, decimal}
-use Rattle.theory_meaning.specs.declared.words.ModelKind.{ModelKind}
-use Rattle.theory_meaning.specs.declared.words.ModelKind.TheVariants as model
 use Rattle.theory_meaning.specs.Edit.{IsModel}
 use Rattle.theory_meaning.specs.ModelFault as meaning
 use Rattle.theory_meaning.specs.ModelFault.{ModelFault}
@@ -12,6 +10,7 @@ use Rattle.theory_grammar.specs.declared.text_kind.TextKind.{TextKind}
 use Rattle.theory_grammar.specs.declared.text_kind.TextKind.TheVariants as text
 use Rattle.theory_grammar.specs.TextFault.{Fault, cut_lines}
 use Rattle.theory_grammar.specs.Texts.{SpellsLines, IsFirstFault}
+use Rattle.theory_model.specs.Told.{printed_kind}
 use Rattle.theory_one_variable.specs.OneVariable.{IsOneVariable}
 use Rattle.theory_one_variable.specs.ReadLines.{unnumbered, IsNotYet}
 
@@ -27,25 +26,13 @@ text_kind_name text.Exponent = codes "Exponent"
 text_kind_name text.Deep = codes "Deep"
 text_kind_name text.Memory = codes "Memory"
 
--- the printed name of a kind of fault of a model
-abbrev pub model_kind_name : ModelKind → List ℕ
-model_kind_name model.ModelLine = codes "ModelLine"
-model_kind_name model.KeyTwice = codes "KeyTwice"
-model_kind_name model.UnknownName = codes "UnknownName"
-model_kind_name model.BadArgument = codes "BadArgument"
-model_kind_name model.NoShift = codes "NoShift"
-model_kind_name model.NotParam = codes "NotParam"
-model_kind_name model.TooManySymbols = codes "TooManySymbols"
-model_kind_name model.TooManyLines = codes "TooManyLines"
-model_kind_name model.Memory = codes "Memory"
-
 -- a fault of a text: its line, its column and its kind
 abbrev pub text_fault_text : Fault → List ℕ
 text_fault_text f = codes ":" ++ decimal f.line ++ codes ":" ++ decimal f.column ++ codes ": " ++ text_kind_name f.kind
 
 -- a fault of a model: its line and its kind
 abbrev pub model_fault_text : ModelFault → List ℕ
-model_fault_text f = codes ":" ++ decimal f.at ++ codes ": " ++ model_kind_name f.kind
+model_fault_text f = codes ":" ++ decimal f.at ++ codes ": " ++ printed_kind f.kind
 
 -- a model that isn't decided yet, with a line
 abbrev pub not_yet_text : ℕ → List ℕ

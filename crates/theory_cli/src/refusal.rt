@@ -1,11 +1,11 @@
 ghost use Rattle.std.specs.Prelude.{◌≡◌, ◌++◌, OnOk, decimal, codes};
-ghost use Rattle.theory_cli.specs.Refusal.{text_kind_name, model_kind_name, text_fault_text};
+ghost use Rattle.theory_cli.specs.Refusal.{text_kind_name, text_fault_text};
 ghost use Rattle.theory_cli.specs.Running.{refusal_text};
 ghost use Rattle.theory_text.specs.Answers.{fault_of};
 
 use crate::printing::add_number;
 use std::alloc::Global;
-use theory_model::{ModelFault, ModelKind};
+use theory_model::{ModelFault, kind_name};
 use theory_points::{Bytes, NoMemory};
 use theory_text::{TextError, TextKind};
 
@@ -26,7 +26,7 @@ pub fn add_refusal(alloc: Global, text: &mut Bytes, refusal: Refusal) -> Result<
 {
     match refusal {
         Refusal::Text(error) => add_text_fault(alloc, text, error),
-        Refusal::Model(fault) => add_kind(alloc, text, fault.at, model_kind(fault.kind)),
+        Refusal::Model(fault) => add_kind(alloc, text, fault.at, kind_name(fault.kind).as_bytes()),
         Refusal::NotYet(line) => add_kind(alloc, text, line, b"NotYet"),
     }
 }
@@ -68,21 +68,5 @@ fn text_kind(kind: TextKind) -> &'static [u8]
         TextKind::Exponent => b"Exponent",
         TextKind::Deep => b"Deep",
         TextKind::Memory => b"Memory",
-    }
-}
-
-fn model_kind(kind: ModelKind) -> &'static [u8]
-    ensures { result.now ≡ model_kind_name kind }
-{
-    match kind {
-        ModelKind::ModelLine => b"ModelLine",
-        ModelKind::KeyTwice => b"KeyTwice",
-        ModelKind::UnknownName => b"UnknownName",
-        ModelKind::BadArgument => b"BadArgument",
-        ModelKind::NoShift => b"NoShift",
-        ModelKind::NotParam => b"NotParam",
-        ModelKind::TooManySymbols => b"TooManySymbols",
-        ModelKind::TooManyLines => b"TooManyLines",
-        ModelKind::Memory => b"Memory",
     }
 }

@@ -3,3 +3,4 @@ pub mod Files
 pub mod Memory
 pub mod Real
 pub mod Sure
+pub mod Told

@@ -19,6 +19,11 @@ pub enum EndFault {
 }
 
 impl fmt::Display for EndFault {
+    ghost use Rattle.std.specs.Prelude.{Some};
+    ghost use Rattle.theory_edge.specs.Told.{told_by};
+
+    ghost output = { λ fault. Some (told_by fault) };
+
     fn fmt<W: fmt::Write>(&self, f: &mut fmt::Formatter<W>) -> fmt::Result {
         f.write_str(match self {
             EndFault::Failed => "the outside failed",

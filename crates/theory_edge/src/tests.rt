@@ -152,3 +152,18 @@ fn real_sinks_write_lines(rt: HostRuntime) -> Result<(), Fail> {
     assert_eq!(rt; errors.faults(), 0);
     Ok(())
 }
+
+#[test]
+fn errors_tell_what_is_wrong(rt: HostRuntime) -> Result<(), Fail> {
+    let alloc = rt.alloc();
+    assert_eq!(rt;
+        EndFault::Failed.to_string(alloc)?.as_str(),
+        "the outside failed"
+    );
+    assert_eq!(rt;
+        EndFault::from(NoMemory).to_string(alloc)?.as_str(),
+        "no memory"
+    );
+    assert_eq!(rt; Failed.to_string(alloc)?.as_str(), "a write failed");
+    Ok(())
+}

@@ -1,5 +1,5 @@
 -- Chains of claims, read member by member.
-use Rattle.std.proofs.Common.{◌≡◌, ℕ, ◌<◌, List, [], ◌∷◌, ◌++◌, length, map, reverse, Option, None, Result, Ok, Err, refl, sym, ap, subst, ◌∙◌, arith}
+use Rattle.std.proofs.Common.{◌≡◌, ℕ, ◌<◌, List, [], ◌∷◌, ◌++◌, length, reverse, Option, None, Ok, Err, refl, sym, ap, ◌∙◌, arith}
 use Rattle.std.specs.Prelude.{All}
 use Rattle.std.specs.Borrow.{Bor}
 use Rattle.std.proofs.lemmas.List.{map-append, reverse-append}
@@ -14,7 +14,7 @@ use Rattle.theory_syntax.specs.Plain.{claim_of, claims_of}
 use Rattle.theory_tokens.specs.declared.token.Token as source
 use Rattle.theory_tokens.specs.Plain.{plain_tokens}
 use Rattle.theory_line.specs.declared.fault.ParseFault.{ParseFault}
-use Rattle.theory_line.specs.Reading.{Parses, reading}
+use Rattle.theory_line.specs.Reading.{reading}
 use Rattle.theory_line.specs.Behind.{in_claim, behind_side, behind_premise, behind_disjunct}
 use Rattle.theory_line.specs.Claims.{Answer, concluded, ParsesSide, ParsesPremise, ParsesDisjunct, ParsesConjunct}
 use Rattle.theory_line.specs.First.{IsNotFirst}

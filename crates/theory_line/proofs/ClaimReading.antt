@@ -1,6 +1,5 @@
 -- Where no connective follows, what is read behind a part is read behind the part around it.
-use Rattle.std.proofs.Common.{◌≡◌, ℕ, suc, Bool, true, false, List, [], ◌∷◌, ◌++◌, length, Option, None, Some, refl, sym, ap, subst, ◌∙◌, arith}
-use Rattle.std.specs.Prelude.{◌≢◌, nat_lt}
+use Rattle.std.proofs.Common.{◌≡◌, ℕ, suc, List, [], ◌∷◌, ◌++◌, length, Option, None, Some, refl, ap, ◌∙◌}
 use Rattle.theory_meaning.specs.declared.words.Rel.{Rel}
 use Rattle.theory_meaning.specs.Tree.{Expr, Claim}
 use Rattle.theory_meaning.specs.Tree as plain
@@ -9,9 +8,9 @@ use Rattle.theory_grammar.specs.declared.words.Mark.TheVariants as sign
 use Rattle.theory_grammar.specs.declared.words.LineFaultKind.TheVariants.{Unexpected, Deep}
 use Rattle.theory_grammar.specs.Token.{Token, keyword, mark, relation}
 use Rattle.theory_grammar.specs.Spelled.{every, has_room, conjunction_of, disjunction_of}
-use Rattle.theory_grammar.proofs.Machine.{State, Heading, ClaimPlace, Context, gate, operand, fresh, fresh_claim, want_claim, have_claim, denied, implied, left_of_atom, right_of_atom, line_with, finished, right_of_equation}
+use Rattle.theory_grammar.proofs.Machine.{Heading, ClaimPlace, gate, operand, fresh, fresh_claim, want_claim, have_claim, denied, left_of_atom, right_of_atom}
 use Rattle.theory_grammar.proofs.Following.{and_then}
-use Rattle.theory_line.specs.Reading.{Reading, stopped, reading, reading_on}
+use Rattle.theory_line.specs.Reading.{Reading, stopped, reading}
 use Rattle.theory_line.specs.Behind.{in_claim, behind_expr, behind_disjunct, behind_premise, behind_side, behind_claim}
 use Rattle.theory_line.specs.Claims.{concluded}
 use Rattle.theory_line.specs.First.{IsNotFirst, HasNoRelation, BeginsNoClaim}

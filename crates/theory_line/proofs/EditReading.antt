@@ -1,16 +1,15 @@
 -- Edits, read by their first word.
-use Rattle.std.proofs.Common.{◌≡◌, ℕ, suc, ◌+◌, Bool, true, false, List, [], ◌∷◌, length, Option, Result, Ok, Err, codes, refl, sym, ap, subst, ◌∙◌, arith}
+use Rattle.std.proofs.Common.{◌≡◌, ℕ, suc, ◌+◌, Bool, true, false, List, [], ◌∷◌, length, Result, Ok, Err, codes, refl, sym, ap, subst, ◌∙◌, arith}
 use Rattle.std.specs.Str.{bytes_eq}
 use Rattle.theory_meaning.specs.Point.{Name}
 use Rattle.theory_meaning.specs.Tree.{Line}
 use Rattle.theory_meaning.specs.Tree as plain
-use Rattle.theory_meaning.specs.Text.{Op, put_line, drop_key}
-use Rattle.theory_grammar.specs.declared.words.LineFaultKind.{LineFaultKind}
+use Rattle.theory_meaning.specs.Text.{Op, put_line}
 use Rattle.theory_grammar.specs.declared.words.LineFaultKind.TheVariants.{Unexpected}
 use Rattle.theory_grammar.specs.Token.{Token, name}
 use Rattle.theory_grammar.specs.Spelled.{IsOp}
 use Rattle.theory_grammar.proofs.Machine.{step, ended, start, finished, name_of_model}
-use Rattle.theory_grammar.proofs.OpMachine.{OpState, OpMove, op_start, putting, key_to_drop, op_word, drop_word, op_unexpected, op_step, op_ended}
+use Rattle.theory_grammar.proofs.OpMachine.{OpState, OpMove, op_start, putting, key_to_drop, op_word, drop_word, op_step, op_ended}
 use Rattle.theory_grammar.proofs.OpLaws.{op_laws}
 use Rattle.theory_grammar.proofs.Following.{Outcome, read, fault, and_then, reads}
 use Rattle.theory_syntax.specs.declared.line.Line as source_line

@@ -6,7 +6,7 @@ use Rattle.theory_grammar.specs.declared.words.LineFaultKind.TheVariants.{Deep}
 use Rattle.theory_grammar.specs.Token.{Token, mark}
 use Rattle.theory_grammar.specs.Scan.{IsFit}
 use Rattle.theory_grammar.specs.Spelled.{every, has_room}
-use Rattle.theory_grammar.proofs.Machine.{State, Left, plus, minus, Place, Context, Move, gate}
+use Rattle.theory_grammar.proofs.Machine.{State, Left, plus, minus, Place, Context, gate}
 use Rattle.theory_grammar.proofs.Machine as m
 use Rattle.theory_grammar.proofs.Following.{and_then}
 use Rattle.theory_line.specs.Reading.{stopped, reading}

@@ -1,5 +1,5 @@
 -- The parts of a line, read one after another.
-use Rattle.std.proofs.Common.{◌≡◌, ℕ, suc, List, [], ◌∷◌, length, ◌++◌, ◌<◌, Option, None, Some, Result, Ok, Err, refl, sym, ap, subst, ◌∙◌, arith}
+use Rattle.std.proofs.Common.{◌≡◌, ℕ, suc, List, [], ◌∷◌, length, ◌++◌, ◌<◌, None, Result, Ok, Err, refl, sym, ap, subst, ◌∙◌}
 use Rattle.std.specs.Prelude.{◌≢◌, ◌==◌, true, false, All}
 use Rattle.std.specs.Borrow.{Bor}
 use Rattle.theory_meaning.specs.declared.words.Rel.TheVariants as rel
@@ -8,7 +8,6 @@ use Rattle.theory_meaning.specs.Tree.{Expr, Claim, Line}
 use Rattle.theory_meaning.specs.Tree as plain
 use Rattle.theory_grammar.specs.declared.words.Keyword.TheVariants as word
 use Rattle.theory_grammar.specs.declared.words.Mark.TheVariants as sign
-use Rattle.theory_grammar.specs.declared.words.LineFaultKind.{LineFaultKind}
 use Rattle.theory_grammar.specs.declared.words.LineFaultKind.TheVariants.{Unexpected}
 use Rattle.theory_grammar.specs.Token.{Token, keyword, name, mark, relation}
 use Rattle.theory_grammar.specs.Scan.{IsFit}

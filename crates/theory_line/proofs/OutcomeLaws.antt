@@ -1,15 +1,13 @@
 -- What is read without counted places says what tokens spell.
-use Rattle.std.proofs.Common.{◌≡◌, ℕ, suc, ◌+◌, List, [], ◌∷◌, length, Option, None, Some, Result, Ok, Err, refl, sym, ap, subst, ◌∙◌, arith}
+use Rattle.std.proofs.Common.{◌≡◌, ℕ, suc, ◌+◌, List, [], ◌∷◌, length, Option, None, Some, Result, Ok, Err, refl, subst, arith}
 use Rattle.theory_meaning.specs.Tree.{Line}
 use Rattle.theory_meaning.specs.Tree as plain
 use Rattle.theory_meaning.specs.Text.{Op, put_line, drop_key}
-use Rattle.theory_grammar.specs.declared.words.LineFaultKind.{LineFaultKind}
-use Rattle.theory_grammar.specs.declared.words.LineFaultKind.TheVariants.{Unexpected}
 use Rattle.theory_grammar.specs.Token.{Token, name}
 use Rattle.theory_grammar.specs.Spelled.{Limits, every, IsLine}
 use Rattle.theory_grammar.specs.LineFault.{Grammar}
 use Rattle.theory_grammar.proofs.Machine.{State, step, ended, start, name_of_model}
-use Rattle.theory_grammar.proofs.OpMachine.{OpState, putting, key_to_drop, op_step, op_ended, within_put, put_ended}
+use Rattle.theory_grammar.proofs.OpMachine.{putting, key_to_drop, op_step, op_ended, within_put, put_ended}
 use Rattle.theory_grammar.proofs.Following.{Outcome, read, fault, Step, and_then, reads, Laws}
 use Rattle.theory_grammar.proofs.Following as following
 use Rattle.theory_grammar.proofs.LineLaws.{line_laws}
@@ -18,7 +16,7 @@ use Rattle.theory_syntax.specs.declared.line.Line as source
 use Rattle.theory_syntax.specs.Plain.{line_of}
 use Rattle.theory_line.specs.declared.fault.ParseFault.{ParseFault}
 use Rattle.theory_line.specs.declared.fault.ParseFault.TheVariants.{At, Memory}
-use Rattle.theory_line.specs.Parsed.{FaultLeaves, IsParsed}
+use Rattle.theory_line.specs.Parsed.{IsParsed}
 use Rattle.theory_line.specs.Reading.{Reading, stopped, at_end, reading}
 use Rattle.theory_line.specs.Reading as here
 use Rattle.theory_line.specs.Lines.{IsReadAs}

@@ -1,16 +1,15 @@
 -- Parts read one after another.
-use Rattle.std.proofs.Common.{◌≡◌, ℕ, suc, ◌<◌, ◌≤◌, List, [], ◌∷◌, length, map, Result, Ok, Err, refl, sym, ap, subst, ◌∙◌, arith}
+use Rattle.std.proofs.Common.{◌≡◌, suc, ◌<◌, List, ◌∷◌, length, Result, Ok, Err, sym, ap, subst, ◌∙◌, arith}
 use Rattle.std.specs.Prelude.{All}
 use Rattle.std.specs.Borrow.{Bor}
 use Rattle.std.specs.Result.{IsErr, IsErrAnd}
 use Rattle.std.proofs.lemmas.List.{length-map}
 use Rattle.std.proofs.lemmas.List.Elements.{All-tail}
-use Rattle.theory_grammar.specs.declared.words.LineFaultKind.{LineFaultKind}
 use Rattle.theory_grammar.specs.Token.{Token}
 use Rattle.theory_grammar.specs.Scan.{IsFit}
 use Rattle.theory_line.specs.declared.fault.ParseFault.{ParseFault}
 use Rattle.theory_line.specs.declared.fault.ParseFault.TheVariants.{At, Memory}
-use Rattle.theory_line.specs.Reading.{Reading, stopped, Parses}
+use Rattle.theory_line.specs.Reading.{Reading, Parses}
 use Rattle.theory_tokens.specs.declared.token.Token as source
 use Rattle.theory_tokens.specs.Plain.{plain_tokens, plain_token}
 

@@ -1,5 +1,5 @@
 -- Sides, negations and brackets, read part by part.
-use Rattle.std.proofs.Common.{◌≡◌, ℕ, suc, ◌+◌, ◌<◌, true, Bool, List, [], ◌∷◌, length, Option, None, Some, Result, Ok, Err, refl, sym, ap, subst, ◌∙◌, arith}
+use Rattle.std.proofs.Common.{◌≡◌, ℕ, suc, ◌+◌, ◌<◌, Bool, List, [], ◌∷◌, length, None, Some, Ok, Err, refl, sym, ap, ◌∙◌, arith}
 use Rattle.std.specs.Borrow.{Bor}
 use Rattle.std.specs.Prelude.{nat_lt}
 use Rattle.std.proofs.lemmas.Bool.{lt-ltb}
@@ -9,14 +9,14 @@ use Rattle.theory_grammar.specs.declared.words.Keyword.TheVariants as word
 use Rattle.theory_grammar.specs.declared.words.Mark.TheVariants as sign
 use Rattle.theory_grammar.specs.declared.words.LineFaultKind.TheVariants.{Deep}
 use Rattle.theory_grammar.specs.Token.{Token, keyword, mark}
-use Rattle.theory_grammar.proofs.Machine.{State, Heading, ClaimPlace, assumption, gate, want_claim, have_claim, fresh_claim, denied}
+use Rattle.theory_grammar.proofs.Machine.{State, Heading, ClaimPlace, gate, want_claim, have_claim, fresh_claim, denied}
 use Rattle.theory_grammar.proofs.Following.{and_then}
 use Rattle.theory_syntax.specs.declared.claim.Claim as node
 use Rattle.theory_syntax.specs.Plain.{claim_of}
 use Rattle.theory_tokens.specs.declared.token.Token as source
 use Rattle.theory_tokens.specs.Plain.{plain_tokens}
 use Rattle.theory_line.specs.declared.fault.ParseFault.{ParseFault}
-use Rattle.theory_line.specs.Reading.{Reading, stopped, reading}
+use Rattle.theory_line.specs.Reading.{stopped, reading}
 use Rattle.theory_line.specs.Behind.{in_claim, behind_side, behind_claim}
 use Rattle.theory_line.specs.Claims.{Answer, ParsesClaim, ParsesSide, ParsesConjunct, ParsesBracketed}
 use Rattle.theory_line.specs.First.{IsNotFirst}

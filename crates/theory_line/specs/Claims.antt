@@ -1,9 +1,8 @@
 -- What is read of each level of a claim, for the clauses of private functions.
-use Rattle.std.specs.Prelude.{◌≡◌, ℕ, List, [], ◌∷◌, Option, Result, Ok, Err, All}
+use Rattle.std.specs.Prelude.{◌≡◌, ℕ, List, [], ◌∷◌, Option, Result}
 use Rattle.std.specs.Borrow.{Bor}
 use Rattle.theory_meaning.specs.Tree.{Claim}
 use Rattle.theory_meaning.specs.Tree as plain
-use Rattle.theory_grammar.specs.Scan.{IsFit}
 use Rattle.theory_grammar.proofs.Machine.{Heading, ClaimPlace, want_claim, have_claim, fresh_claim, implied}
 use Rattle.theory_syntax.specs.declared.claim.Claim as node
 use Rattle.theory_syntax.specs.Plain.{claim_of}

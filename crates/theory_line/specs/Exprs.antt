@@ -1,12 +1,11 @@
 -- What is read of each level of an expression, and which tokens stand first, for the clauses of private functions.
-use Rattle.std.specs.Prelude.{◌≡◌, ◌≢◌, ℕ, suc, List, [], ◌∷◌, All, Result, Ok, Err}
+use Rattle.std.specs.Prelude.{◌≡◌, ◌≢◌, ℕ, suc, List, [], ◌∷◌, Result}
 use Rattle.std.specs.Borrow.{Bor}
 use Rattle.theory_meaning.specs.Tree.{Expr}
 use Rattle.theory_meaning.specs.Tree as plain
 use Rattle.theory_grammar.specs.declared.words.Mark.{Mark}
 use Rattle.theory_grammar.specs.declared.words.Mark.TheVariants as sign
 use Rattle.theory_grammar.specs.Token.{Token, number, mark}
-use Rattle.theory_grammar.specs.Scan.{IsFit}
 use Rattle.theory_grammar.proofs.Machine.{Left, Place, Context, fresh, opposed, joined, operand, closed, exponent, below, factored}
 use Rattle.theory_line.specs.declared.fault.ParseFault.{ParseFault}
 use Rattle.theory_line.specs.declared.front.Addition.{Addition}

@@ -31,6 +31,11 @@ pub enum EditFault {
 }
 
 impl fmt::Display for EditFault {
+    ghost use Rattle.std.specs.Prelude.{Some};
+    ghost use Rattle.theory_model.specs.Told.{told_by};
+
+    ghost output = { λ fault. Some (told_by fault) };
+
     fn fmt<W: fmt::Write>(&self, f: &mut fmt::Formatter<W>) -> fmt::Result {
         f.write_str(match self {
             EditFault::UnknownKey(_) => "no line has the key to drop",

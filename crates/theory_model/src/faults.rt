@@ -1,3 +1,6 @@
+ghost use Rattle.std.specs.Prelude.{◌≡◌};
+ghost use Rattle.theory_model.specs.Told.{printed_kind};
+
 use std::error::Error;
 use std::fmt;
 use theory_meaning::ModelKind;
@@ -11,6 +14,11 @@ pub struct ModelFault {
 }
 
 impl fmt::Display for ModelFault {
+    ghost use Rattle.std.specs.Prelude.{Some};
+    ghost use Rattle.theory_model.specs.Told.{printed_kind};
+
+    ghost output = { λ fault. Some (printed_kind fault.kind) };
+
     fn fmt<W: fmt::Write>(&self, f: &mut fmt::Formatter<W>) -> fmt::Result {
         f.write_str(kind_name(self.kind))
     }
@@ -19,7 +27,9 @@ impl fmt::Display for ModelFault {
 impl Error for ModelFault {}
 
 /// The name of a kind, as it is printed.
-pub fn kind_name(kind: ModelKind) -> &'static str {
+pub fn kind_name(kind: ModelKind) -> &'static str
+    ensures { result.now ≡ printed_kind kind }
+{
     match kind {
         ModelKind::ModelLine => "ModelLine",
         ModelKind::KeyTwice => "KeyTwice",

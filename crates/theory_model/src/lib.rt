@@ -19,12 +19,14 @@ mod model;
 #[cfg(test)]
 mod rows;
 #[cfg(test)]
+mod telling_tests;
+#[cfg(test)]
 mod tests;
 mod uses;
 
 pub use changing::{EditFault, apply};
 pub use checking::check;
-pub use faults::ModelFault;
+pub use faults::{ModelFault, kind_name};
 pub use identifiers::{have_identifiers, put_identifiers};
 pub use listing::symbols;
 pub use model::{Model, text_of};

@@ -33,58 +33,64 @@ fn parameters(alloc: Global, count: u32, below: &[Row]) -> Result<Lines, NoMemor
     Ok(lines)
 }
 
+/// So many parameters, lines behind them, and the line of a claim with too many symbols.
+type Listed = (u32, &'static [Row], Option<u32>);
+
+const LISTED: [Listed; 8] = [
+    (32, &[Row::Claim(b"p0")], None),
+    (33, &[Row::Claim(b"p0")], Some(201)),
+    (33, &[Row::Assume(b"A", b"p0")], None),
+    (31, &[Row::Var(b"x"), Row::Claim(b"x")], None),
+    (31, &[Row::Var(b"x"), Row::ClaimBy(b"p0", b"x")], Some(202)),
+    (30, &[Row::Var(b"x"), Row::ClaimBy(b"p0", b"d.x")], None),
+    (
+        28,
+        &[
+            Row::Var(b"x"),
+            Row::Fun(b"F", b"x"),
+            Row::ClaimBy(b"p0", b"x"),
+        ],
+        None,
+    ),
+    (
+        29,
+        &[
+            Row::Var(b"x"),
+            Row::Fun(b"F", b"x"),
+            Row::ClaimBy(b"p0", b"x"),
+        ],
+        Some(203),
+    ),
+];
+
 /// A claim may list 32 symbols, those of shifts and slopes among them.
 #[test]
 fn listed_symbols_at_the_limit(rt: HostRuntime) -> Result<(), Fail> {
     let alloc = rt.alloc();
-    let many = at(ModelKind::TooManySymbols, 201);
-    let more = at(ModelKind::TooManySymbols, 202);
-    let most = at(ModelKind::TooManySymbols, 203);
-    let rows: [(u32, &[Row], Option<ModelFault>); 10] = [
-        (32, &[Row::Claim(b"p0")], None),
-        (33, &[Row::Claim(b"p0")], many),
-        (33, &[Row::Assume(b"A", b"p0")], None),
-        (31, &[Row::Var(b"x"), Row::Claim(b"x")], None),
-        (31, &[Row::Var(b"x"), Row::ClaimBy(b"p0", b"x")], more),
-        (30, &[Row::Var(b"x"), Row::ClaimBy(b"p0", b"d.x")], None),
-        (
-            28,
-            &[
-                Row::Var(b"x"),
-                Row::Fun(b"F", b"x"),
-                Row::ClaimBy(b"p0", b"x"),
-            ],
-            None,
-        ),
-        (
-            29,
-            &[
-                Row::Var(b"x"),
-                Row::Fun(b"F", b"x"),
-                Row::ClaimBy(b"p0", b"x"),
-            ],
-            most,
-        ),
-        // the other kinds go first
-        (
-            33,
-            &[Row::ClaimBy(b"p0", b"q")],
-            at(ModelKind::UnknownName, 201),
-        ),
-        (
-            33,
-            &[Row::Var(b"x"), Row::ClaimBy(b"x", b"p0")],
-            at(ModelKind::NotParam, 202),
-        ),
-    ];
-    for (count, below, want) in rows {
+    for (count, below, line) in LISTED {
         let lines = parameters(alloc, count, below)?;
-        assert_eq!(rt;
-            fault(checked(alloc, &lines)),
-            want,
-            "{count} and {below:?}"
-        );
+        let found = fault(checked(alloc, &lines));
+        let want = match line {
+            Some(number) => at(ModelKind::TooManySymbols, number),
+            None => None,
+        };
+        assert_eq!(rt; found, want, "{count} and {below:?}");
     }
+    Ok(())
+}
+
+#[test]
+fn other_kinds_go_before_too_many_symbols(rt: HostRuntime) -> Result<(), Fail> {
+    let alloc = rt.alloc();
+    let unknown: [Row; 1] = [Row::ClaimBy(b"p0", b"q")];
+    let lines = parameters(alloc, 33, &unknown)?;
+    assert_eq!(rt;
+        fault(checked(alloc, &lines)),
+        at(ModelKind::UnknownName, 201)
+    );
+    let shifted: [Row; 2] = [Row::Var(b"x"), Row::ClaimBy(b"x", b"p0")];
+    let lines = parameters(alloc, 33, &shifted)?;
+    assert_eq!(rt; fault(checked(alloc, &lines)), at(ModelKind::NotParam, 202));
     Ok(())
 }
 

@@ -5,3 +5,4 @@ pub use Rattle.theory_method.specs.Between
 pub mod Parts
 pub mod Changes
 pub mod Simplest
+pub mod Told

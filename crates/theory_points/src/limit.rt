@@ -10,6 +10,11 @@ use std::fmt;
 pub struct NoMemory;
 
 impl fmt::Display for NoMemory {
+    ghost use Rattle.std.specs.Prelude.{Some};
+    ghost use Rattle.theory_points.specs.Told.{told_of_memory};
+
+    ghost output = { λ _. Some told_of_memory };
+
     fn fmt<W: fmt::Write>(&self, f: &mut fmt::Formatter<W>) -> fmt::Result {
         f.write_str("no memory")
     }
@@ -34,6 +39,11 @@ impl<T: Drop> From<AllocFailed<T>> for NoMemory {
 pub struct Wide;
 
 impl fmt::Display for Wide {
+    ghost use Rattle.std.specs.Prelude.{Some};
+    ghost use Rattle.theory_points.specs.Told.{told_of_limit};
+
+    ghost output = { λ _. Some told_of_limit };
+
     fn fmt<W: fmt::Write>(&self, f: &mut fmt::Formatter<W>) -> fmt::Result {
         f.write_str("a result passes the limit")
     }
@@ -51,6 +61,11 @@ pub enum Limit {
 }
 
 impl fmt::Display for Limit {
+    ghost use Rattle.std.specs.Prelude.{Some};
+    ghost use Rattle.theory_points.specs.Told.{told_by};
+
+    ghost output = { λ limit. Some (told_by limit) };
+
     fn fmt<W: fmt::Write>(&self, f: &mut fmt::Formatter<W>) -> fmt::Result {
         f.write_str(match self {
             Limit::Wide => "a result passes the limit",

@@ -1,5 +1,6 @@
 use crate::bytes::{Bytes, Name, Names};
 use crate::frac::Frac;
+use crate::limit::{Limit, NoMemory, Wide};
 use crate::point::Point;
 use crate::whole::{whole_above, whole_below};
 use std::cmp::Ordering;
@@ -122,6 +123,34 @@ fn lists_of_bytes_and_names(rt: HostRuntime) -> Result<(), Fail> {
     let mut names = Names::new(rt.alloc());
     names.push(name)?;
     assert_eq!(rt; names.as_slice().len(), 1);
+    Ok(())
+}
+
+#[test]
+fn bytes_of_a_vector(rt: HostRuntime) -> Result<(), Fail> {
+    let mut items = Vec::new(rt.alloc());
+    items.push(7)?;
+    items.push(8)?;
+    assert_eq!(rt; Bytes::from_vec(items).as_slice(), [7, 8].as_slice());
+    Ok(())
+}
+
+#[test]
+fn errors_tell_what_is_wrong(rt: HostRuntime) -> Result<(), Fail> {
+    let alloc = rt.alloc();
+    assert_eq!(rt; NoMemory.to_string(alloc)?.as_str(), "no memory");
+    assert_eq!(rt;
+        Wide.to_string(alloc)?.as_str(),
+        "a result passes the limit"
+    );
+    assert_eq!(rt;
+        Limit::Wide.to_string(alloc)?.as_str(),
+        "a result passes the limit"
+    );
+    assert_eq!(rt;
+        Limit::from(NoMemory).to_string(alloc)?.as_str(),
+        "no memory"
+    );
     Ok(())
 }
 

@@ -1,5 +1,5 @@
 -- A claim and its negation have as many atoms in their normal forms.
-use Rattle.std.proofs.Common.{◌≡◌, ℕ, ◌+◌, min, refl, sym, ap, ap₂, ◌∙◌, arith}
+use Rattle.std.proofs.Common.{◌≡◌, ℕ, ◌+◌, min, refl, sym, ap₂, arith}
 use Rattle.theory_meaning.specs.Tree.{Claim, Claims, always, never, atom, negation, conjunction, disjunction, implication, equivalence, none, more}
 use Rattle.theory_method.specs.NormalForm.{normal_form, negated_form, normal_forms, negated_forms, atom_count, atom_count_of_all}
 

@@ -1,5 +1,5 @@
 -- The lowest form of an expression is one, and what two results give together.
-use Rattle.std.proofs.Common.{◌≡◌, ℕ, zero, suc, ◌+◌, ◌-◌, ◌*◌, ◌<◌, ◌≤◌, ◌⊎◌, ℤ, pos, ◌+ℤ◌, ◌*ℤ◌, Bool, true, false, refl, sym, ap, ◌∙◌, subst, subst₂, arith, inl, inr, ⊎_elim, Result, Ok, Err, IfOk}
+use Rattle.std.proofs.Common.{◌≡◌, ℕ, zero, suc, ◌+◌, ◌-◌, ◌*◌, ◌<◌, ◌⊎◌, ℤ, pos, ◌+ℤ◌, ◌*ℤ◌, Bool, true, false, sym, subst, subst₂, arith, inl, inr, ⊎_elim, Result, Ok, Err, IfOk}
 use Rattle.theory_meaning.specs.Fraction.{den}
 use Rattle.theory_meaning.specs.Point.{Name}
 use Rattle.theory_meaning.specs.Tree.{Expr, number, symbol, sum, difference, opposite, product, power}
@@ -10,7 +10,7 @@ use Rattle.std.proofs.lemmas.Int.{ints}
 use Rattle.theory_points.specs.declared.limit.Limit.{Limit}
 use Rattle.theory_points.specs.declared.limit.Limit.TheVariants.{Wide, Memory}
 use Rattle.theory_method.specs.Polynomial.{constant_of, symbol_of, no_powers}
-use Rattle.theory_method.specs.RationalPolynomial.{Quotient, IsLowest, IsLowestOf, IsQuotientBeyond, QuotientPasses, sum_of_quotients, difference_of_quotients, product_of_quotients}
+use Rattle.theory_method.specs.RationalPolynomial.{Quotient, IsLowest, IsLowestOf, IsQuotientBeyond, sum_of_quotients, difference_of_quotients, product_of_quotients}
 use Rattle.theory_method.specs.Lowered.{place_of, over, IsResultOf, opposite_of_quotient, IsPowerOf, IsFormOf}
 use Rattle.theory_method.specs.LoweringLimits.{IsBeyondBy, IsWidePower, IsWideExpr}
 use Rattle.theory_poly.specs.Answers.{WideWhere}

@@ -1,5 +1,5 @@
 -- The claim of a list of members, the powers that are left, and whole numbers as fractions.
-use Rattle.std.proofs.Common.{◌≡◌, ℕ, ◌<◌, ◌≤◌, ◌*ℤ◌, ℤ, pos, min, List, [], ◌∷◌, ◌++◌, length, map, drop, Vec, Global, refl, sym, ap, ◌∙◌, arith, Result, Ok, Err, IfOk}
+use Rattle.std.proofs.Common.{◌≡◌, ℕ, ◌<◌, ◌≤◌, ◌*ℤ◌, ℤ, pos, min, List, [], ◌∷◌, length, map, drop, Vec, Global, refl, sym, ap, ◌∙◌, arith, Result, Ok, Err, IfOk}
 use Rattle.theory_points.specs.declared.limit.NoMemory.{NoMemory}
 use Rattle.std.proofs.lemmas.Int.{ints}
 use Rattle.std.proofs.lemmas.List.{length-drop}

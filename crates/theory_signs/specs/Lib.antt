@@ -5,3 +5,4 @@ pub mod Condition
 pub mod Plain
 pub mod Combined
 pub mod Lowering
+pub mod Told

@@ -17,6 +17,11 @@ pub enum LowerFault {
 }
 
 impl fmt::Display for LowerFault {
+    ghost use Rattle.std.specs.Prelude.{Some};
+    ghost use Rattle.theory_signs.specs.Told.{told_by};
+
+    ghost output = { λ fault. Some (told_by fault) };
+
     fn fmt<W: fmt::Write>(&self, f: &mut fmt::Formatter<W>) -> fmt::Result {
         f.write_str(match self {
             LowerFault::Large => "more than 512 atoms",

@@ -199,3 +199,17 @@ fn coefficients_at_the_limit(rt: HostRuntime) -> Result<(), Fail> {
     assert!(rt; found);
     Ok(())
 }
+
+#[test]
+fn faults_tell_why(rt: HostRuntime) -> Result<(), Fail> {
+    let alloc = rt.alloc();
+    let rows = [
+        (LowerFault::Large, "more than 512 atoms"),
+        (LowerFault::Wide, "a polynomial passes a limit"),
+        (LowerFault::from(NoMemory), "no memory"),
+    ];
+    for (fault, told) in rows {
+        assert_eq!(rt; fault.to_string(alloc)?.as_str(), told);
+    }
+    Ok(())
+}

@@ -7,8 +7,8 @@ use Rattle.std.proofs.lemmas.List.Folds.{list_any-append}
 use Rattle.theory_method.specs.Formula.{Formula, always, never, atom, conjunction, disjunction}
 use Rattle.theory_elimination.specs.SameFormula.{is_same}
 use Rattle.theory_elimination.specs.Simplified.{as_part, as_formula, first_ones}
-use Rattle.theory_signs.specs.declared.formula.Formula as made
-use Rattle.theory_signs.specs.Plain.{formula_of}
+use Rattle.theory_simplify.specs.declared.drafts.Draft as lent
+use Rattle.theory_simplify.specs.Drafts.{draft_of}
 use Rattle.theory_simplify.specs.Parts.{parts_of}
 
 same_seen : (xs ys Fs : List Formula) → ((F : Formula) → list_any (is_same F) xs ≡ list_any (is_same F) ys) → first_ones xs Fs ≡ first_ones ys Fs
@@ -44,6 +44,6 @@ as_before (atom P S) = refl
 as_before (conjunction Fs) = refl
 as_before (disjunction Fs) = refl
 
-pub all_as_before : (Fs : List made.Formula) → map as_formula (parts_of Fs) ≡ map formula_of Fs
+pub all_as_before : (Fs : List lent.Draft) → map as_formula (parts_of Fs) ≡ map draft_of Fs
 all_as_before [] = refl
-all_as_before (F ∷ Fs) = ap₂ (λ (G : Formula) (Gs : List Formula). G ∷ Gs) (as_before (formula_of F)) (all_as_before Fs)
+all_as_before (F ∷ Fs) = ap₂ (λ (G : Formula) (Gs : List Formula). G ∷ Gs) (as_before (draft_of F)) (all_as_before Fs)

@@ -1,3 +1,4 @@
+mod DraftLemmas
 mod SameLemmas
 mod PutLemmas
 mod WaitingLemmas

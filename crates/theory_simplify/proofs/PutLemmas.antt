@@ -12,10 +12,10 @@ use Rattle.theory_elimination.specs.Facts.{Fact, Facts, with_fact}
 use Rattle.theory_elimination.specs.Simplified.{Part, told, condition, other, as_part, put_together, with_condition}
 use Rattle.theory_elimination.proofs.SameLaws.{same_poly}
 use Rattle.theory_signs.specs.Condition.{Condition}
-use Rattle.theory_signs.specs.declared.formula.Formula as made
-use Rattle.theory_signs.specs.declared.formula.Formula.{Formula-F, fold-roll-Formula}
-use Rattle.theory_signs.specs.declared.formula.Formula.TheVariants.{Atom, rolls-Atom}
-use Rattle.theory_signs.specs.Plain.{formula_of, formula_step}
+use Rattle.theory_simplify.specs.declared.drafts.Draft as lent
+use Rattle.theory_simplify.specs.declared.drafts.Draft.{Draft-F, fold-roll-Draft}
+use Rattle.theory_simplify.specs.declared.drafts.Draft.TheVariants.{Atom, rolls-Atom}
+use Rattle.theory_simplify.specs.Drafts.{draft_of, draft_step}
 use Rattle.theory_simplify.specs.Parts.{part_of, parts_of, fact_of, facts_of, first_or, condition_on, held_at, known_at}
 
 -- what was found at a later place
@@ -150,9 +150,9 @@ known_within P (f ∷ K) i T h =
 
 -- the same of the members that were made
 pub part_of-Atom : (a : Condition) → part_of (Atom a) ≡ condition a.poly a.signs
-part_of-Atom a = ap as_part (ap formula_of (sym (rolls-Atom a)) ∙ fold-roll-Formula Formula formula_step (Formula-F.Atom a))
+part_of-Atom a = ap as_part (ap draft_of (sym (rolls-Atom a)) ∙ fold-roll-Draft Formula draft_step (Draft-F.Atom a))
 
-pub put_met : (all : Bool) (P : List Monomial) (S : Signs) (done : List made.Formula) (i : ℕ) (T R : Signs) (b : Condition)
+pub put_met : (all : Bool) (P : List Monomial) (S : Signs) (done : List lent.Draft) (i : ℕ) (T R : Signs) (b : Condition)
     → held_at P (parts_of done) ≡ Some (i, T) → put_together all T S ≡ Some R → b ≡ record { poly = P; signs = R }
     → with_condition all P S (parts_of done) ≡ Some (parts_of (set done i (Atom b)))
 put_met all P S done i T R b found put is =
@@ -161,12 +161,12 @@ put_met all P S done i T R b found put is =
     ∙ ap (λ (m : Part Formula). Some (set (parts_of done) i m)) (sym (part_of-Atom b ∙ ap (λ (a : Condition). condition a.poly a.signs) is))
     ∙ ap Some (sym (map-set part_of done i (Atom b)))
 
-pub put_decides : (all : Bool) (P : List Monomial) (S : Signs) (done : List made.Formula) (i : ℕ) (T : Signs)
+pub put_decides : (all : Bool) (P : List Monomial) (S : Signs) (done : List lent.Draft) (i : ℕ) (T : Signs)
     → held_at P (parts_of done) ≡ Some (i, T) → put_together all T S ≡ None → with_condition all P S (parts_of done) ≡ None
 put_decides all P S done i T found put =
     put_at_place all P S (parts_of done) i T found ∙ ap (option_map (λ U. set (parts_of done) i (condition P U))) put
 
-pub put_last : (all : Bool) (a : Condition) (done : List made.Formula) → held_at a.poly (parts_of done) ≡ None
+pub put_last : (all : Bool) (a : Condition) (done : List lent.Draft) → held_at a.poly (parts_of done) ≡ None
     → with_condition all a.poly a.signs (parts_of done) ≡ Some (parts_of (done ++ Atom a ∷ []))
 put_last all a done h =
     put_at_end all a.poly a.signs (parts_of done) h

@@ -8,8 +8,8 @@ use Rattle.theory_method.specs.Formula.{always, never, atom, conjunction, disjun
 use Rattle.theory_elimination.specs.SameFormula.{is_same_poly}
 use Rattle.theory_elimination.specs.Facts.{Facts, judged}
 use Rattle.theory_elimination.specs.Simplified.{Part, told, condition, other, as_part, put_together, with_condition, gathered_behind, undecided, gathered, by_facts, as_judged}
-use Rattle.theory_signs.specs.declared.formula.Formula as made
-use Rattle.theory_signs.specs.Plain.{formula_of}
+use Rattle.theory_simplify.specs.declared.drafts.Draft as lent
+use Rattle.theory_simplify.specs.Drafts.{draft_of}
 use Rattle.theory_simplify.specs.Parts.{parts_of, flat_parts, all_flat_parts, open_parts, opened}
 
 abbrev Parts : Type 0
@@ -43,25 +43,25 @@ weight_of_part (atom P S) = refl
 weight_of_part (conjunction Fs) = refl
 weight_of_part (disjunction Fs) = refl
 
-pub weight_of_parts : (Fs : List made.Formula) → parts_weight (parts_of Fs) ≡ weights (formulas_from (map formula_of Fs))
+pub weight_of_parts : (Fs : List lent.Draft) → parts_weight (parts_of Fs) ≡ weights (formulas_from (map draft_of Fs))
 weight_of_parts [] = refl
-weight_of_parts (F ∷ Fs) = ap₂ ◌+◌ (weight_of_part (formula_of F)) (weight_of_parts Fs)
+weight_of_parts (F ∷ Fs) = ap₂ ◌+◌ (weight_of_part (draft_of F)) (weight_of_parts Fs)
 
 abbrev pub inner_of : Result plain.Formulas plain.Formula → plain.Formulas
 inner_of (Ok Fs) = Fs
 inner_of (Err F) = none
 
 -- a list weighs more than its members
-pub inner_weight : (all : Bool) (F : plain.Formula) (Fs : List made.Formula) → opened all F ≡ Ok (formulas_from (map formula_of Fs))
+pub inner_weight : (all : Bool) (F : plain.Formula) (Fs : List lent.Draft) → opened all F ≡ Ok (formulas_from (map draft_of Fs))
     → suc (parts_weight (parts_of Fs)) ≡ part_weight (as_part F)
-inner_weight true always Fs h = absurd (let e : Err always ≡ Ok (formulas_from (map formula_of Fs)) = h in cc)
-inner_weight false always Fs h = absurd (let e : Err always ≡ Ok (formulas_from (map formula_of Fs)) = h in cc)
-inner_weight true never Fs h = absurd (let e : Err never ≡ Ok (formulas_from (map formula_of Fs)) = h in cc)
-inner_weight false never Fs h = absurd (let e : Err never ≡ Ok (formulas_from (map formula_of Fs)) = h in cc)
-inner_weight true (atom P S) Fs h = absurd (let e : Err (atom P S) ≡ Ok (formulas_from (map formula_of Fs)) = h in cc)
-inner_weight false (atom P S) Fs h = absurd (let e : Err (atom P S) ≡ Ok (formulas_from (map formula_of Fs)) = h in cc)
-inner_weight true (disjunction Gs) Fs h = absurd (let e : Err (disjunction Gs) ≡ Ok (formulas_from (map formula_of Fs)) = h in cc)
-inner_weight false (conjunction Gs) Fs h = absurd (let e : Err (conjunction Gs) ≡ Ok (formulas_from (map formula_of Fs)) = h in cc)
+inner_weight true always Fs h = absurd (let e : Err always ≡ Ok (formulas_from (map draft_of Fs)) = h in cc)
+inner_weight false always Fs h = absurd (let e : Err always ≡ Ok (formulas_from (map draft_of Fs)) = h in cc)
+inner_weight true never Fs h = absurd (let e : Err never ≡ Ok (formulas_from (map draft_of Fs)) = h in cc)
+inner_weight false never Fs h = absurd (let e : Err never ≡ Ok (formulas_from (map draft_of Fs)) = h in cc)
+inner_weight true (atom P S) Fs h = absurd (let e : Err (atom P S) ≡ Ok (formulas_from (map draft_of Fs)) = h in cc)
+inner_weight false (atom P S) Fs h = absurd (let e : Err (atom P S) ≡ Ok (formulas_from (map draft_of Fs)) = h in cc)
+inner_weight true (disjunction Gs) Fs h = absurd (let e : Err (disjunction Gs) ≡ Ok (formulas_from (map draft_of Fs)) = h in cc)
+inner_weight false (conjunction Gs) Fs h = absurd (let e : Err (conjunction Gs) ≡ Ok (formulas_from (map draft_of Fs)) = h in cc)
 inner_weight true (conjunction Gs) Fs h =
     ap suc (weight_of_parts Fs ∙ ap weights (sym (ap inner_of h)))
 inner_weight false (disjunction Gs) Fs h =

@@ -1,4 +1,4 @@
--- The members of a list of formulas as plain members, and the steps on them before they wait for facts.
+-- The members of a list of drafts as plain members, and the steps on them before they wait for facts.
 use Rattle.std.specs.Prelude.{◌≡◌, ℕ, suc, Bool, true, false, List, [], ◌∷◌, ◌++◌, map, Option, None, Some, Result, Ok, Err, if◌then◌else◌}
 use Rattle.std.specs.declared.vec.Vec.{Vec}
 use Rattle.std.specs.Global.{Global}
@@ -11,18 +11,18 @@ use Rattle.theory_elimination.specs.SameFormula.{is_same_poly}
 use Rattle.theory_elimination.specs.Facts.{Fact, Facts, judged}
 use Rattle.theory_elimination.specs.Simplified.{Part, Waiting, told, condition, other, as_part, by_facts, undecided, gathered, simplified_under, simplified_list, all_parts_of}
 use Rattle.theory_signs.specs.Condition.{Condition}
-use Rattle.theory_signs.specs.declared.formula.Formula.{Formula}
-use Rattle.theory_signs.specs.Plain.{formula_of}
+use Rattle.theory_simplify.specs.declared.drafts.Draft.{Draft}
+use Rattle.theory_simplify.specs.Drafts.{draft_of}
 
--- a formula as a member
-abbrev pub part_of : Formula → Part plain.Formula
-part_of F = as_part (formula_of F)
+-- a draft as a member
+abbrev pub part_of : Draft → Part plain.Formula
+part_of D = as_part (draft_of D)
 
-abbrev pub parts_of : List Formula → List (Part plain.Formula)
-parts_of Fs = map part_of Fs
+abbrev pub parts_of : List Draft → List (Part plain.Formula)
+parts_of Ds = map part_of Ds
 
-abbrev pub parts_in : Vec Formula Global → List (Part plain.Formula)
-parts_in Fs = parts_of Fs.items
+abbrev pub parts_in : Vec Draft Global → List (Part plain.Formula)
+parts_in Ds = parts_of Ds.items
 
 -- an atom as a fact
 abbrev pub fact_of : Condition → Fact
@@ -101,16 +101,16 @@ opened false (disjunction Fs) = Ok Fs
 opened all F = Err F
 
 -- the same of results
-abbrev pub IsOpened : Bool → plain.Formula → Result (Vec Formula Global) Formula → Type 0
-IsOpened all F (Ok Fs) = opened all F ≡ Ok (plain.formulas_from (map formula_of Fs.items))
-IsOpened all F (Err G) = opened all F ≡ Err (formula_of G)
+abbrev pub IsOpened : Bool → plain.Formula → Result (Vec Draft Global) Draft → Type 0
+IsOpened all F (Ok Ds) = opened all F ≡ Ok (plain.formulas_from (map draft_of Ds.items))
+IsOpened all F (Err D) = opened all F ≡ Err (draft_of D)
 
 -- a list that was made has these members, and there is none where the whole is decided
-abbrev pub AreParts : Option (List (Part plain.Formula)) → Option (Vec Formula Global) → Type 0
+abbrev pub AreParts : Option (List (Part plain.Formula)) → Option (Vec Draft Global) → Type 0
 AreParts wanted None = wanted ≡ None
-AreParts wanted (Some Fs) = wanted ≡ Some (parts_of Fs.items)
+AreParts wanted (Some Ds) = wanted ≡ Some (parts_of Ds.items)
 
 -- whether an atom was put in, so that these are the members, or decides the whole
-abbrev pub IsPutIn : Option (List (Part plain.Formula)) → List Formula → Bool → Type 0
-IsPutIn wanted Fs true = wanted ≡ Some (parts_of Fs)
-IsPutIn wanted Fs false = wanted ≡ None
+abbrev pub IsPutIn : Option (List (Part plain.Formula)) → List Draft → Bool → Type 0
+IsPutIn wanted Ds true = wanted ≡ Some (parts_of Ds)
+IsPutIn wanted Ds false = wanted ≡ None

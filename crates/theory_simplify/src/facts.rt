@@ -3,21 +3,21 @@ ghost use Rattle.theory_elimination.specs.Facts.{known_set, is_within, judged, w
 ghost use Rattle.theory_elimination.specs.Simplified.{with_conditions, facts_within};
 ghost use Rattle.theory_simplify.specs.Parts.{facts_of, parts_of, known_at};
 
-use crate::sameness::is_same_poly;
+use crate::drafts::Draft;
+use crate::lent::LentAtom;
 use std::alloc::Global;
 use theory_meaning::Sign;
 use theory_points::NoMemory;
-use theory_poly::Poly;
-use theory_signs::{Atom, Formula, Signs};
+use theory_signs::Signs;
 
 /// Conditions that are known to hold, one a polynomial.
-pub type Facts = Vec<Atom>;
+pub type Facts<'a> = Vec<LentAtom<'a>>;
 
 /// What the facts say of a condition; None where they leave it open.
-pub fn judged(facts: &[Atom], atom: &Atom) -> Option<bool>
+pub fn judged(facts: &[LentAtom<'_>], atom: &LentAtom<'_>) -> Option<bool>
     ensures { result ≡ judged (facts_of facts.now) atom.now.poly atom.now.signs }
 {
-    let known = known_set(facts, atom.poly())?;
+    let known = known_set(facts, atom)?;
     if known.meet(atom.signs()).is_none() {
         Some(false)
     } else if is_within(known, atom.signs()) {
@@ -27,12 +27,12 @@ pub fn judged(facts: &[Atom], atom: &Atom) -> Option<bool>
     }
 }
 
-/// The set of the first fact on a polynomial.
-fn known_set(facts: &[Atom], poly: &Poly) -> Option<Signs>
-    ensures { result ≡ known_set poly.now (facts_of facts.now) }
+/// The set of the first fact on the polynomial of an atom.
+fn known_set(facts: &[LentAtom<'_>], atom: &LentAtom<'_>) -> Option<Signs>
+    ensures { result ≡ known_set atom.now.poly (facts_of facts.now) }
 {
     for fact in facts {
-        if is_same_poly(fact.poly(), poly) {
+        if fact.has_poly_of(atom) {
             return Some(fact.signs());
         }
     }
@@ -49,66 +49,66 @@ fn is_within(first: Signs, second: Signs) -> bool
 }
 
 /// The facts for the members of a list: in a conjunction also its atoms.
-pub fn facts_within(
+pub fn facts_within<'a>(
     alloc: Global,
     all: bool,
-    facts: &[Atom],
-    members: &[Formula],
-) -> Result<Facts, NoMemory>
+    facts: &[LentAtom<'a>],
+    members: &[Draft<'a>],
+) -> Result<Facts<'a>, NoMemory>
     ensures { IfOk result (λ K.
         facts_of K.items ≡ facts_within all (parts_of members.now) (facts_of facts.now)) }
 {
     let mut within = copied(alloc, facts)?;
     if all {
-        add_conditions(alloc, &mut within, members)?;
+        add_conditions(&mut within, members)?;
     }
     Ok(within)
 }
 
-fn copied(alloc: Global, facts: &[Atom]) -> Result<Facts, NoMemory>
+fn copied<'a>(alloc: Global, facts: &[LentAtom<'a>]) -> Result<Facts<'a>, NoMemory>
     ensures { IfOk result (λ K. K.items ≡ facts.now) }
 {
     let mut all = Vec::new(alloc);
     for fact in facts {
-        all.push(fact.with_signs(alloc, fact.signs())?)?;
+        all.push(fact.with_signs(fact.signs()))?;
     }
     Ok(all)
 }
 
-fn add_conditions(alloc: Global, facts: &mut Facts, members: &[Formula]) -> Result<(), NoMemory>
+fn add_conditions<'a>(facts: &mut Facts<'a>, members: &[Draft<'a>]) -> Result<(), NoMemory>
     ensures { OnOk result (facts_of facts.new.items
         ≡ with_conditions (parts_of members.now) (facts_of facts.old.items)) }
 {
     for member in members {
-        if let Formula::Atom(atom) = member {
-            add_fact(alloc, facts, atom)?;
+        if let Draft::Atom(atom) = member {
+            add_fact(facts, atom)?;
         }
     }
     Ok(())
 }
 
 /// Meets the known set of the polynomial with the condition's, or adds the condition.
-fn add_fact(alloc: Global, facts: &mut Facts, atom: &Atom) -> Result<(), NoMemory>
+fn add_fact<'a>(facts: &mut Facts<'a>, atom: &LentAtom<'a>) -> Result<(), NoMemory>
     ensures { OnOk result (facts_of facts.new.items
         ≡ with_fact atom.now.poly atom.now.signs (facts_of facts.old.items)) }
 {
-    match known_at(facts, atom.poly()) {
+    match known_at(facts, atom) {
         Some((place, known)) => {
             if let Some(met) = known.meet(atom.signs()) {
-                facts[place] = atom.with_signs(alloc, met)?;
+                facts[place] = atom.with_signs(met);
             }
         }
-        None => facts.push(atom.with_signs(alloc, atom.signs())?)?,
+        None => facts.push(atom.with_signs(atom.signs()))?,
     }
     Ok(())
 }
 
-/// The place of the first fact on a polynomial, and its set.
-fn known_at(facts: &[Atom], poly: &Poly) -> Option<(usize, Signs)>
-    ensures { result ≡ known_at poly.now (facts_of facts.now) }
+/// The place of the first fact on the polynomial of an atom, and its set.
+fn known_at(facts: &[LentAtom<'_>], atom: &LentAtom<'_>) -> Option<(usize, Signs)>
+    ensures { result ≡ known_at atom.now.poly (facts_of facts.now) }
 {
     for (place, fact) in facts.iter().enumerate() {
-        if is_same_poly(fact.poly(), poly) {
+        if fact.has_poly_of(atom) {
             return Some((place, fact.signs()));
         }
     }

@@ -1,26 +1,26 @@
 ghost use Rattle.std.specs.Prelude.{◌≡◌, ◌++◌, IfOk, OnOk, map};
 ghost use Rattle.theory_method.specs.Formula.{formulas_from};
 ghost use Rattle.theory_elimination.specs.Simplified.{spliced};
-ghost use Rattle.theory_signs.specs.Plain.{formula_of};
+ghost use Rattle.theory_simplify.specs.Drafts.{draft_of};
 ghost use Rattle.theory_simplify.specs.Parts.{parts_of, all_flat_parts, IsOpened};
 
+use crate::drafts::{Draft, Drafts};
 use std::alloc::Global;
 use theory_points::NoMemory;
-use theory_signs::{Formula, Formulas};
 
 /// The members of nested lists of one kind as one list.
-pub fn flattened(alloc: Global, all: bool, members: Formulas) -> Result<Formulas, NoMemory>
+pub fn flattened<'a>(alloc: Global, all: bool, members: Drafts<'a>) -> Result<Drafts<'a>, NoMemory>
     ensures { IfOk result (λ flat.
-        parts_of flat.items ≡ all_flat_parts all (formulas_from (map formula_of members.items))) }
+        parts_of flat.items ≡ all_flat_parts all (formulas_from (map draft_of members.entry.items))) }
 {
     let mut flat = Vec::new(alloc);
     flatten(all, members, &mut flat)?;
     Ok(flat)
 }
 
-fn flatten(all: bool, members: Formulas, flat: &mut Formulas) -> Result<(), NoMemory>
+fn flatten<'a>(all: bool, members: Drafts<'a>, flat: &mut Drafts<'a>) -> Result<(), NoMemory>
     ensures { OnOk result (parts_of flat.new.items ≡ parts_of flat.old.items
-        ++ all_flat_parts all (formulas_from (map formula_of members.items))) }
+        ++ all_flat_parts all (formulas_from (map draft_of members.entry.items))) }
 {
     for member in members {
         match opened(all, member) {
@@ -32,9 +32,9 @@ fn flatten(all: bool, members: Formulas, flat: &mut Formulas) -> Result<(), NoMe
 }
 
 /// Adds a member, or its members where it is a list of the same kind.
-pub fn splice(all: bool, member: Formula, into: &mut Formulas) -> Result<(), NoMemory>
+pub fn splice<'a>(all: bool, member: Draft<'a>, into: &mut Drafts<'a>) -> Result<(), NoMemory>
     ensures { OnOk result
-        (parts_of into.new.items ≡ parts_of into.old.items ++ spliced all (formula_of member)) }
+        (parts_of into.new.items ≡ parts_of into.old.items ++ spliced all (draft_of member.entry)) }
 {
     match opened(all, member) {
         Ok(inner) => {
@@ -47,21 +47,21 @@ pub fn splice(all: bool, member: Formula, into: &mut Formulas) -> Result<(), NoM
     Ok(())
 }
 
-/// The members of a list of one kind, and else the formula itself.
-fn opened(all: bool, formula: Formula) -> Result<Formulas, Formula>
-    ensures { IsOpened all (formula_of formula) result }
+/// The members of a list of one kind, and else the draft itself.
+fn opened<'a>(all: bool, draft: Draft<'a>) -> Result<Drafts<'a>, Draft<'a>>
+    ensures { IsOpened all (draft_of draft.entry) result }
 {
-    match formula {
-        Formula::And(members) => {
+    match draft {
+        Draft::And(members) => {
             if all {
                 Ok(members)
             } else {
-                Err(Formula::And(members))
+                Err(Draft::And(members))
             }
         }
-        Formula::Or(members) => {
+        Draft::Or(members) => {
             if all {
-                Err(Formula::Or(members))
+                Err(Draft::Or(members))
             } else {
                 Ok(members)
             }

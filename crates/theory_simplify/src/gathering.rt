@@ -1,19 +1,21 @@
 ghost use Rattle.std.specs.Prelude.{◌≡◌, [], IfOk, map};
-ghost use Rattle.theory_method.specs.SignCondition.{decided};
 ghost use Rattle.theory_elimination.specs.Simplified.{put_together, with_condition, gathered_behind, undecided, gathered, by_facts};
-ghost use Rattle.theory_signs.specs.Plain.{formula_of};
 ghost use Rattle.theory_simplify.specs.Parts.{part_of, parts_of, facts_of, open_parts, condition_on, held_at, truth_told, judged_part, AreParts, IsPutIn};
 
+use crate::drafts::{Draft, Drafts, decision};
 use crate::facts::judged;
-use crate::sameness::is_same_poly;
+use crate::lent::LentAtom;
 use std::alloc::Global;
 use theory_points::NoMemory;
-use theory_poly::Poly;
-use theory_signs::{Atom, Formula, Formulas, Signs};
+use theory_signs::Signs;
 
 /// The members put together, without the decided ones; None where the whole is decided.
-pub fn gathered(alloc: Global, all: bool, members: Formulas) -> Result<Option<Formulas>, NoMemory>
-    ensures { IfOk result (AreParts (gathered all (parts_of members.items))) }
+pub fn gathered<'a>(
+    alloc: Global,
+    all: bool,
+    members: Drafts<'a>,
+) -> Result<Option<Drafts<'a>>, NoMemory>
+    ensures { IfOk result (AreParts (gathered all (parts_of members.entry.items))) }
 {
     match put_together_all(alloc, all, members)? {
         Some(members) => undecided(alloc, all, members),
@@ -22,14 +24,14 @@ pub fn gathered(alloc: Global, all: bool, members: Formulas) -> Result<Option<Fo
 }
 
 /// The members that the facts leave open; None where the whole is decided.
-pub fn left_open(
+pub fn left_open<'a>(
     alloc: Global,
     all: bool,
-    facts: &[Atom],
-    members: Formulas,
-) -> Result<Option<Formulas>, NoMemory>
+    facts: &[LentAtom<'a>],
+    members: Drafts<'a>,
+) -> Result<Option<Drafts<'a>>, NoMemory>
     ensures { IfOk result
-        (AreParts (open_parts all (facts_of facts.now) (parts_of members.items))) }
+        (AreParts (open_parts all (facts_of facts.now) (parts_of members.entry.items))) }
 {
     match gathered(alloc, all, members)? {
         Some(members) => undecided(alloc, all, judged_all(alloc, facts, members)?),
@@ -38,9 +40,13 @@ pub fn left_open(
 }
 
 /// The members with each atom decided of which the facts say something.
-fn judged_all(alloc: Global, facts: &[Atom], members: Formulas) -> Result<Formulas, NoMemory>
+fn judged_all<'a>(
+    alloc: Global,
+    facts: &[LentAtom<'a>],
+    members: Drafts<'a>,
+) -> Result<Drafts<'a>, NoMemory>
     ensures { IfOk result (λ found.
-        parts_of found.items ≡ map (by_facts (facts_of facts.now)) (parts_of members.items)) }
+        parts_of found.items ≡ map (by_facts (facts_of facts.now)) (parts_of members.entry.items)) }
 {
     let mut all = Vec::new(alloc);
     for member in members {
@@ -49,8 +55,8 @@ fn judged_all(alloc: Global, facts: &[Atom], members: Formulas) -> Result<Formul
     Ok(all)
 }
 
-fn judged_member(facts: &[Atom], member: Formula) -> Formula
-    ensures { part_of result ≡ by_facts (facts_of facts.now) (part_of member) }
+fn judged_member<'a>(facts: &[LentAtom<'a>], member: Draft<'a>) -> Draft<'a>
+    ensures { part_of result ≡ by_facts (facts_of facts.now) (part_of member.entry) }
 {
     match judged_truth(facts, &member) {
         Some(truth) => decision(truth),
@@ -59,28 +65,28 @@ fn judged_member(facts: &[Atom], member: Formula) -> Formula
 }
 
 /// What the facts say of a member; None where it isn't an atom.
-fn judged_truth(facts: &[Atom], member: &Formula) -> Option<bool>
+fn judged_truth(facts: &[LentAtom<'_>], member: &Draft<'_>) -> Option<bool>
     ensures { result ≡ judged_part (facts_of facts.now) (part_of member.now) }
 {
     match member {
-        Formula::Atom(atom) => judged(facts, atom),
+        Draft::Atom(atom) => judged(facts, atom),
         _ => None,
     }
 }
 
 /// The atoms of each polynomial put together at the first one's place.
-fn put_together_all(
+fn put_together_all<'a>(
     alloc: Global,
     all: bool,
-    members: Formulas,
-) -> Result<Option<Formulas>, NoMemory>
-    ensures { IfOk result (AreParts (gathered_behind all [] (parts_of members.items))) }
+    members: Drafts<'a>,
+) -> Result<Option<Drafts<'a>>, NoMemory>
+    ensures { IfOk result (AreParts (gathered_behind all [] (parts_of members.entry.items))) }
 {
     let mut done = Vec::new(alloc);
     for member in members {
         match member {
-            Formula::Atom(atom) => {
-                if !put_in(alloc, all, &mut done, atom)? {
+            Draft::Atom(atom) => {
+                if !put_in(all, &mut done, atom)? {
                     return Ok(None);
                 }
             }
@@ -91,43 +97,43 @@ fn put_together_all(
 }
 
 /// Puts an atom together with the one of its polynomial, or at the end; false where that decides.
-fn put_in(alloc: Global, all: bool, done: &mut Formulas, atom: Atom) -> Result<bool, NoMemory>
+fn put_in<'a>(all: bool, done: &mut Drafts<'a>, atom: LentAtom<'a>) -> Result<bool, NoMemory>
     ensures { IfOk result (IsPutIn
-        (with_condition all atom.poly atom.signs (parts_of done.old.items)) done.new.items) }
+        (with_condition all atom.entry.poly atom.entry.signs (parts_of done.old.items)) done.new.items) }
 {
-    match held_at(done, atom.poly()) {
+    match held_at(done, &atom) {
         Some((place, held)) => match put_together(all, held, atom.signs()) {
             Some(signs) => {
-                done[place] = Formula::Atom(atom.with_signs(alloc, signs)?);
+                done[place] = Draft::Atom(atom.with_signs(signs));
                 Ok(true)
             }
             None => Ok(false),
         },
         None => {
-            done.push(Formula::Atom(atom))?;
+            done.push(Draft::Atom(atom))?;
             Ok(true)
         }
     }
 }
 
-/// The place of the atom of a polynomial, and its set.
-fn held_at(members: &[Formula], poly: &Poly) -> Option<(usize, Signs)>
-    ensures { result ≡ held_at poly.now (parts_of members.now) }
+/// The place of the atom on the polynomial of another one, and its set.
+fn held_at(members: &[Draft<'_>], atom: &LentAtom<'_>) -> Option<(usize, Signs)>
+    ensures { result ≡ held_at atom.now.poly (parts_of members.now) }
 {
     for (place, member) in members.iter().enumerate() {
-        if let Some(signs) = condition_on(member, poly) {
+        if let Some(signs) = condition_on(member, atom) {
             return Some((place, signs));
         }
     }
     None
 }
 
-/// The set of a member that is an atom of the polynomial.
-fn condition_on(member: &Formula, poly: &Poly) -> Option<Signs>
-    ensures { result ≡ condition_on poly.now (part_of member.now) }
+/// The set of a member that is an atom on the polynomial of another one.
+fn condition_on(member: &Draft<'_>, atom: &LentAtom<'_>) -> Option<Signs>
+    ensures { result ≡ condition_on atom.now.poly (part_of member.now) }
 {
     match member {
-        Formula::Atom(atom) => is_same_poly(atom.poly(), poly).then_some(atom.signs()),
+        Draft::Atom(held) => held.has_poly_of(atom).then_some(held.signs()),
         _ => None,
     }
 }
@@ -144,8 +150,12 @@ fn put_together(all: bool, first: Signs, second: Signs) -> Option<Signs>
 }
 
 /// The members without the decided ones that don't count; None where one decides the whole.
-fn undecided(alloc: Global, all: bool, members: Formulas) -> Result<Option<Formulas>, NoMemory>
-    ensures { IfOk result (AreParts (undecided all (parts_of members.items))) }
+fn undecided<'a>(
+    alloc: Global,
+    all: bool,
+    members: Drafts<'a>,
+) -> Result<Option<Drafts<'a>>, NoMemory>
+    ensures { IfOk result (AreParts (undecided all (parts_of members.entry.items))) }
 {
     let mut open = Vec::new(alloc);
     for member in members {
@@ -162,19 +172,12 @@ fn undecided(alloc: Global, all: bool, members: Formulas) -> Result<Option<Formu
 }
 
 /// The truth of a decided member.
-fn truth_told(member: &Formula) -> Option<bool>
+fn truth_told(member: &Draft<'_>) -> Option<bool>
     ensures { result ≡ truth_told (part_of member.now) }
 {
     match member {
-        Formula::True => Some(true),
-        Formula::False => Some(false),
+        Draft::True => Some(true),
+        Draft::False => Some(false),
         _ => None,
     }
-}
-
-/// The formula that is always or never true.
-pub fn decision(truth: bool) -> Formula
-    ensures { formula_of result ≡ decided truth }
-{
-    if truth { Formula::True } else { Formula::False }
 }

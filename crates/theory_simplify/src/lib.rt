@@ -3,10 +3,13 @@
 //! A contract sees a formula as its plain tree. `simplify` is the one call.
 #![tactic(auto)]
 
+mod drafts;
 mod facts;
 mod finishing;
 mod flattening;
 mod gathering;
+mod lent;
+mod polynomials;
 #[cfg(test)]
 mod rows;
 mod sameness;

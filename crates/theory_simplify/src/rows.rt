@@ -1,4 +1,5 @@
-use crate::gathering::decision;
+use crate::drafts::drafted;
+use crate::sameness::is_same;
 use std::alloc::Global;
 use theory_points::{Limit, NoMemory};
 use theory_poly::Poly;
@@ -88,9 +89,27 @@ fn signs(minus: bool, zero: bool, plus: bool) -> Signs {
     }
 }
 
+fn decision(truth: bool) -> Formula {
+    if truth { Formula::True } else { Formula::False }
+}
+
+/// Whether two formulas are the same tree, order included.
+pub fn is_same_formula(alloc: Global, first: &Formula, second: &Formula) -> Result<bool, NoMemory> {
+    Ok(is_same(&drafted(alloc, first)?, &drafted(alloc, second)?))
+}
+
 pub fn atom(alloc: Global, letter: char, set: [bool; 3]) -> Result<Formula, Limit> {
     let poly = poly(alloc, letter)?;
     Ok(make_atom(alloc, &poly, signs(set[0], set[1], set[2]))?)
+}
+
+/// Adds a condition on each of x, x + 1, .. x + 255.
+pub fn add_conditions(alloc: Global, signs: Signs, members: &mut Formulas) -> Result<(), Limit> {
+    for k in 0..256 {
+        let moved = poly(alloc, 'x')?.add(alloc, &Poly::constant(alloc, k)?)?;
+        keep(members, make_atom(alloc, &moved, signs)?)?;
+    }
+    Ok(())
 }
 
 /// What was read of an atom: its letter and its signs.

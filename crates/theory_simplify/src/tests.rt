@@ -1,14 +1,14 @@
-use crate::rows::{formula, made, truth};
-use crate::sameness::is_same;
+use crate::rows::{add_conditions, formula, is_same_formula, made, truth};
 use crate::simplification::simplify;
 use std::alloc::Global;
 use std::test::Fail;
+use theory_signs::{Formula, Signs};
 
 /// Whether each formula has the form beside it; else the row that hasn't.
 fn wrong_row<'a>(alloc: Global, rows: &'a [(&'a str, &'a str)]) -> Result<Option<&'a str>, Fail> {
     for (text, wanted) in rows {
         let form = simplify(alloc, &formula(alloc, text)?)?;
-        if !is_same(&form, &formula(alloc, wanted)?) {
+        if !is_same_formula(alloc, &form, &formula(alloc, wanted)?)? {
             return Ok(Some(text));
         }
     }
@@ -118,6 +118,20 @@ fn repeated_and_single_members(rt: HostRuntime) -> Result<(), Fail> {
         ("F", "F"),
     ];
     assert_eq!(rt; wrong_row(rt.alloc(), &rows)?, None);
+    Ok(())
+}
+
+/// 512 atoms on 256 polynomials that have the same first term: two are met at the first one's place.
+#[test]
+fn many_atoms(rt: HostRuntime) -> Result<(), Fail> {
+    let alloc = rt.alloc();
+    let mut members = Vec::new(alloc);
+    add_conditions(alloc, Signs::NotNeg, &mut members)?;
+    add_conditions(alloc, Signs::NotPos, &mut members)?;
+    let mut zeros = Vec::new(alloc);
+    add_conditions(alloc, Signs::Zero, &mut zeros)?;
+    let form = simplify(alloc, &Formula::And(members))?;
+    assert!(rt; is_same_formula(alloc, &form, &Formula::And(zeros))?);
     Ok(())
 }
 

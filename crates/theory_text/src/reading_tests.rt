@@ -74,47 +74,48 @@ fn faults_of_tokens(rt: HostRuntime) -> Result<(), Fail> {
     Ok(())
 }
 
+const FAULTS: [(&str, TextKind, u32, u32); 30] = [
+    ("model m\nvar x^2", TextKind::Unexpected, 2, 6),
+    ("claim C: x = 1/0", TextKind::ZeroBelow, 1, 16),
+    ("claim C: x^9 = 0", TextKind::Exponent, 1, 12),
+    ("claim C: x^0 = 0", TextKind::Exponent, 1, 12),
+    ("model m\n\nclaim C: x <", TextKind::Unexpected, 3, 13),
+    ("model m\n\nclaim C: x < ", TextKind::Unexpected, 3, 14),
+    ("model m\n\nclaim C: x <\n", TextKind::Unexpected, 3, 13),
+    ("var # x", TextKind::Unexpected, 1, 5),
+    ("var# x", TextKind::Unexpected, 1, 4),
+    ("var x #\u{e9}\u{e9}\nvar x x", TextKind::Unexpected, 2, 7),
+    ("#\u{e9}\n\n\r\n \tvar\t1", TextKind::Unexpected, 4, 7),
+    ("x", TextKind::Unexpected, 1, 1),
+    ("model", TextKind::Unexpected, 1, 6),
+    ("model m m", TextKind::Unexpected, 1, 9),
+    ("model d", TextKind::Unexpected, 1, 7),
+    ("model var", TextKind::Unexpected, 1, 7),
+    ("var a.b", TextKind::Unexpected, 1, 5),
+    ("fun S of", TextKind::Unexpected, 1, 9),
+    ("fun S p", TextKind::Unexpected, 1, 7),
+    ("eq E: x < y", TextKind::Unexpected, 1, 9),
+    ("eq E: x = y = z", TextKind::Unexpected, 1, 13),
+    ("claim C x = 0", TextKind::Unexpected, 1, 9),
+    ("claim C by: x = 0", TextKind::Unexpected, 1, 11),
+    ("claim C: not", TextKind::Unexpected, 1, 13),
+    ("claim C: [x = 0", TextKind::Unexpected, 1, 16),
+    ("claim C: x = 0]", TextKind::Unexpected, 1, 15),
+    (
+        "claim C: true iff true iff true",
+        TextKind::Unexpected,
+        1,
+        24,
+    ),
+    ("claim C: 1/2/3 = 0", TextKind::Unexpected, 1, 13),
+    ("claim C: 3/2^2 = 0", TextKind::Unexpected, 1, 13),
+    ("claim C: x/2 = 0", TextKind::Unexpected, 1, 11),
+];
+
 #[test]
 fn faults_of_lines(rt: HostRuntime) -> Result<(), Fail> {
     let alloc = rt.alloc();
-    let rows = [
-        ("model m\nvar x^2", TextKind::Unexpected, 2, 6),
-        ("claim C: x = 1/0", TextKind::ZeroBelow, 1, 16),
-        ("claim C: x^9 = 0", TextKind::Exponent, 1, 12),
-        ("claim C: x^0 = 0", TextKind::Exponent, 1, 12),
-        ("model m\n\nclaim C: x <", TextKind::Unexpected, 3, 13),
-        ("model m\n\nclaim C: x < ", TextKind::Unexpected, 3, 14),
-        ("model m\n\nclaim C: x <\n", TextKind::Unexpected, 3, 13),
-        ("var # x", TextKind::Unexpected, 1, 5),
-        ("var# x", TextKind::Unexpected, 1, 4),
-        ("var x #\u{e9}\u{e9}\nvar x x", TextKind::Unexpected, 2, 7),
-        ("#\u{e9}\n\n\r\n \tvar\t1", TextKind::Unexpected, 4, 7),
-        ("x", TextKind::Unexpected, 1, 1),
-        ("model", TextKind::Unexpected, 1, 6),
-        ("model m m", TextKind::Unexpected, 1, 9),
-        ("model d", TextKind::Unexpected, 1, 7),
-        ("model var", TextKind::Unexpected, 1, 7),
-        ("var a.b", TextKind::Unexpected, 1, 5),
-        ("fun S of", TextKind::Unexpected, 1, 9),
-        ("fun S p", TextKind::Unexpected, 1, 7),
-        ("eq E: x < y", TextKind::Unexpected, 1, 9),
-        ("eq E: x = y = z", TextKind::Unexpected, 1, 13),
-        ("claim C x = 0", TextKind::Unexpected, 1, 9),
-        ("claim C by: x = 0", TextKind::Unexpected, 1, 11),
-        ("claim C: not", TextKind::Unexpected, 1, 13),
-        ("claim C: [x = 0", TextKind::Unexpected, 1, 16),
-        ("claim C: x = 0]", TextKind::Unexpected, 1, 15),
-        (
-            "claim C: true iff true iff true",
-            TextKind::Unexpected,
-            1,
-            24,
-        ),
-        ("claim C: 1/2/3 = 0", TextKind::Unexpected, 1, 13),
-        ("claim C: 3/2^2 = 0", TextKind::Unexpected, 1, 13),
-        ("claim C: x/2 = 0", TextKind::Unexpected, 1, 11),
-    ];
-    for (text, kind, line, column) in rows {
+    for (text, kind, line, column) in FAULTS {
         let wanted = Some(fault(kind, line, column));
         assert_eq!(rt; text_fault(alloc, text.as_bytes()), wanted, "{text}");
     }
@@ -208,98 +209,99 @@ fn single_lines(rt: HostRuntime) -> Result<(), Fail> {
     Ok(())
 }
 
+const PRINTED: [(&str, &str); 50] = [
+    ("\tmodel\tm # the name\r", "model m"),
+    ("var x", "var x"),
+    (" var x1_ ", "var x1_"),
+    ("param t", "param t"),
+    ("fun S of p", "fun S of p"),
+    ("fun  S  of  p t  x ", "fun S of p t x"),
+    ("eq E:D=S-t", "eq E: D = S - t"),
+    ("eq E: -x^2 = 0", "eq E: -x^2 = 0"),
+    ("assume A: 0<x", "assume A: 0 < x"),
+    ("claim C: 2*x+1>=6/4", "claim C: 2*x + 1 >= 3/2"),
+    ("claim C by t: d.x < 0", "claim C by t: d.x < 0"),
+    ("claim C:x!=007", "claim C: x != 7"),
+    ("claim C: x<=4/2", "claim C: x <= 2"),
+    ("claim C: 0/7 = x", "claim C: 0 = x"),
+    ("claim C: ((x)) = 0", "claim C: x = 0"),
+    ("claim C: (a+b)+c = 0", "claim C: a + b + c = 0"),
+    ("claim C: a+(b+c) = 0", "claim C: a + (b + c) = 0"),
+    ("claim C: a-(b-c) = 0", "claim C: a - (b - c) = 0"),
+    ("claim C: (a-b)-c = 0", "claim C: a - b - c = 0"),
+    ("claim C: (a*b)+c = 0", "claim C: a*b + c = 0"),
+    ("claim C: (a+b)*c = 0", "claim C: (a + b)*c = 0"),
+    ("claim C: a*(b*c) = 0", "claim C: a*(b*c) = 0"),
+    ("claim C: (a*b)*c = 0", "claim C: a*b*c = 0"),
+    ("claim C: - - a = 0", "claim C: --a = 0"),
+    ("claim C: -(a) = 0", "claim C: -a = 0"),
+    ("claim C: -(a+b) = 0", "claim C: -(a + b) = 0"),
+    ("claim C: a*-b = 0", "claim C: a*-b = 0"),
+    ("claim C: (-a)*b = 0", "claim C: -a*b = 0"),
+    ("claim C: (-a)^2 = 0", "claim C: (-a)^2 = 0"),
+    ("claim C: -3/6 = a", "claim C: -1/2 = a"),
+    ("claim C: (3/2)^2 = a", "claim C: (3/2)^2 = a"),
+    ("claim C: (4/2)^2 = a", "claim C: 2^2 = a"),
+    ("claim C: (x^2)^3 = a", "claim C: (x^2)^3 = a"),
+    ("claim C: x^1 = D.p*d.p", "claim C: x^1 = D.p*d.p"),
+    ("claim C: true", "claim C: true"),
+    ("claim C: [false]", "claim C: false"),
+    ("claim C: not[x=0]", "claim C: not x = 0"),
+    ("claim C: not not true", "claim C: not not true"),
+    (
+        "claim C: not [x = 0 and y = 0]",
+        "claim C: not [x = 0 and y = 0]",
+    ),
+    (
+        "claim C: [x<0 and y<0] or true",
+        "claim C: x < 0 and y < 0 or true",
+    ),
+    (
+        "claim C: [x<0 or y<0] and true",
+        "claim C: [x < 0 or y < 0] and true",
+    ),
+    (
+        "claim C: true and [false and true]",
+        "claim C: true and [false and true]",
+    ),
+    (
+        "claim C: [true and false] and true",
+        "claim C: [true and false] and true",
+    ),
+    (
+        "claim C: true and false and true",
+        "claim C: true and false and true",
+    ),
+    (
+        "claim C: true implies [false implies true]",
+        "claim C: true implies false implies true",
+    ),
+    (
+        "claim C: [true implies false] implies true",
+        "claim C: [true implies false] implies true",
+    ),
+    (
+        "claim C: [true or false] implies x > 0",
+        "claim C: true or false implies x > 0",
+    ),
+    (
+        "claim C: [true implies false] iff true",
+        "claim C: true implies false iff true",
+    ),
+    (
+        "claim C: [true iff false] iff true",
+        "claim C: [true iff false] iff true",
+    ),
+    (
+        "assume A: true implies [true iff x>=0]",
+        "assume A: true implies [true iff x >= 0]",
+    ),
+];
+
 #[test]
 fn printed_lines(rt: HostRuntime) -> Result<(), Fail> {
     let alloc = rt.alloc();
-    let rows = [
-        ("\tmodel\tm # the name\r", "model m"),
-        ("var x", "var x"),
-        (" var x1_ ", "var x1_"),
-        ("param t", "param t"),
-        ("fun S of p", "fun S of p"),
-        ("fun  S  of  p t  x ", "fun S of p t x"),
-        ("eq E:D=S-t", "eq E: D = S - t"),
-        ("eq E: -x^2 = 0", "eq E: -x^2 = 0"),
-        ("assume A: 0<x", "assume A: 0 < x"),
-        ("claim C: 2*x+1>=6/4", "claim C: 2*x + 1 >= 3/2"),
-        ("claim C by t: d.x < 0", "claim C by t: d.x < 0"),
-        ("claim C:x!=007", "claim C: x != 7"),
-        ("claim C: x<=4/2", "claim C: x <= 2"),
-        ("claim C: 0/7 = x", "claim C: 0 = x"),
-        ("claim C: ((x)) = 0", "claim C: x = 0"),
-        ("claim C: (a+b)+c = 0", "claim C: a + b + c = 0"),
-        ("claim C: a+(b+c) = 0", "claim C: a + (b + c) = 0"),
-        ("claim C: a-(b-c) = 0", "claim C: a - (b - c) = 0"),
-        ("claim C: (a-b)-c = 0", "claim C: a - b - c = 0"),
-        ("claim C: (a*b)+c = 0", "claim C: a*b + c = 0"),
-        ("claim C: (a+b)*c = 0", "claim C: (a + b)*c = 0"),
-        ("claim C: a*(b*c) = 0", "claim C: a*(b*c) = 0"),
-        ("claim C: (a*b)*c = 0", "claim C: a*b*c = 0"),
-        ("claim C: - - a = 0", "claim C: --a = 0"),
-        ("claim C: -(a) = 0", "claim C: -a = 0"),
-        ("claim C: -(a+b) = 0", "claim C: -(a + b) = 0"),
-        ("claim C: a*-b = 0", "claim C: a*-b = 0"),
-        ("claim C: (-a)*b = 0", "claim C: -a*b = 0"),
-        ("claim C: (-a)^2 = 0", "claim C: (-a)^2 = 0"),
-        ("claim C: -3/6 = a", "claim C: -1/2 = a"),
-        ("claim C: (3/2)^2 = a", "claim C: (3/2)^2 = a"),
-        ("claim C: (4/2)^2 = a", "claim C: 2^2 = a"),
-        ("claim C: (x^2)^3 = a", "claim C: (x^2)^3 = a"),
-        ("claim C: x^1 = D.p*d.p", "claim C: x^1 = D.p*d.p"),
-        ("claim C: true", "claim C: true"),
-        ("claim C: [false]", "claim C: false"),
-        ("claim C: not[x=0]", "claim C: not x = 0"),
-        ("claim C: not not true", "claim C: not not true"),
-        (
-            "claim C: not [x = 0 and y = 0]",
-            "claim C: not [x = 0 and y = 0]",
-        ),
-        (
-            "claim C: [x<0 and y<0] or true",
-            "claim C: x < 0 and y < 0 or true",
-        ),
-        (
-            "claim C: [x<0 or y<0] and true",
-            "claim C: [x < 0 or y < 0] and true",
-        ),
-        (
-            "claim C: true and [false and true]",
-            "claim C: true and [false and true]",
-        ),
-        (
-            "claim C: [true and false] and true",
-            "claim C: [true and false] and true",
-        ),
-        (
-            "claim C: true and false and true",
-            "claim C: true and false and true",
-        ),
-        (
-            "claim C: true implies [false implies true]",
-            "claim C: true implies false implies true",
-        ),
-        (
-            "claim C: [true implies false] implies true",
-            "claim C: [true implies false] implies true",
-        ),
-        (
-            "claim C: [true or false] implies x > 0",
-            "claim C: true or false implies x > 0",
-        ),
-        (
-            "claim C: [true implies false] iff true",
-            "claim C: true implies false iff true",
-        ),
-        (
-            "claim C: [true iff false] iff true",
-            "claim C: [true iff false] iff true",
-        ),
-        (
-            "assume A: true implies [true iff x>=0]",
-            "assume A: true implies [true iff x >= 0]",
-        ),
-    ];
-    for (line, wanted) in rows {
+    for (line, wanted) in PRINTED {
         let once = printed(alloc, line.as_bytes())?;
         assert_eq!(rt; once.as_slice(), wanted.as_bytes(), "{line}");
         let again = printed(alloc, once.as_slice())?;

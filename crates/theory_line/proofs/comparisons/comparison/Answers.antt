@@ -1,4 +1,4 @@
-use Rattle.std.proofs.Common.{◌≡◌, sym, ap, ◌∙◌, ℕ, ◌<◌, [], length, arith}
+use Rattle.std.proofs.Common.{sym, ap, ◌∙◌, [], arith}
 use Rattle.theory_meaning.specs.Tree.{Claim}
 use Rattle.theory_grammar.specs.Token.{relation}
 use Rattle.theory_grammar.proofs.Machine.{want_claim, have_claim, operand, fresh, left_of_atom, right_of_atom}

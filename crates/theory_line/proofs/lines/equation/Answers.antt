@@ -1,4 +1,4 @@
-use Rattle.std.proofs.Common.{◌≡◌, [], refl, ap, ◌∙◌}
+use Rattle.std.proofs.Common.{[], refl, ap, ◌∙◌}
 use Rattle.theory_meaning.specs.Tree as plain
 use Rattle.theory_meaning.specs.declared.words.Rel.TheVariants as rel
 use Rattle.theory_grammar.specs.declared.words.Mark.TheVariants as sign

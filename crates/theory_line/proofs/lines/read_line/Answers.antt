@@ -1,4 +1,4 @@
-use Rattle.std.proofs.Common.{◌≡◌, ◌∷◌, refl, ap, ◌∙◌}
+use Rattle.std.proofs.Common.{◌∷◌, refl, ap, ◌∙◌}
 use Rattle.theory_meaning.specs.Tree as plain
 use Rattle.theory_grammar.specs.declared.words.Keyword.TheVariants as word
 use Rattle.theory_grammar.specs.Token.{keyword}

@@ -1,4 +1,4 @@
-use Rattle.std.proofs.Common.{◌≡◌, [], refl, ap, ◌∙◌}
+use Rattle.std.proofs.Common.{[], refl, ◌∙◌}
 use Rattle.theory_grammar.specs.declared.words.Mark.TheVariants as sign
 use Rattle.theory_grammar.specs.Token.{mark}
 use Rattle.theory_grammar.proofs.Machine.{at_colon, claim_of_line, line_with}

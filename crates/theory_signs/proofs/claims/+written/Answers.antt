@@ -1,5 +1,4 @@
 use Rattle.theory_signs.proofs.WrittenLemmas.{written-And, written-Or}
-use Rattle.theory_signs.specs.Plain.{formula_of}
 use Rattle.theory_syntax.specs.Plain.{claim_of}
 use Rattle.std.proofs.Common.{map}
 use Rattle.theory_signs.proofs.claims.+written.Goals as goal

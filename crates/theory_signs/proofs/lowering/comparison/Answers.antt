@@ -1,6 +1,3 @@
-use Rattle.theory_method.specs.Lowered.{IsFormOf}
-use Rattle.theory_method.specs.LoweringLimits.{IsWideExpr}
-use Rattle.theory_method.specs.RationalPolynomial.{difference_of_quotients}
 use Rattle.theory_syntax.specs.Plain.{expr_of}
 use Rattle.theory_signs.proofs.FormLaws.{form, difference_is_wide}
 use Rattle.theory_signs.proofs.lowering.comparison.Goals as goal

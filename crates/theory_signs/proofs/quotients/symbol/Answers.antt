@@ -1,4 +1,4 @@
-use Rattle.std.proofs.Common.{◌≡◌, rules, arith}
+use Rattle.std.proofs.Common.{rules, arith}
 use Rattle.theory_method.specs.Polynomial.{symbol_of}
 use Rattle.theory_method.specs.RationalPolynomial.{IsLowestOf}
 use Rattle.theory_method.specs.Lowered.{over, place_of}

@@ -4,4 +4,4 @@ use Rattle.theory_simplify.proofs.facts.known_at.Given as goal
 
 abbrev pub invariant-loop-place : goal.invariant-loop-place
 invariant-loop-place l =
-    option_map (λ h. (l.place + h.0, h.1)) (known_at l.poly (facts_of (drop l.place l.facts))) ≡ known_at l.poly (facts_of l.facts)
+    option_map (λ h. (l.place + h.0, h.1)) (known_at l.atom.poly (facts_of (drop l.place l.facts))) ≡ known_at l.atom.poly (facts_of l.facts)

@@ -4,20 +4,20 @@ use Rattle.std.proofs.lemmas.List.{map-append}
 use Rattle.theory_method.specs.Formula as plain
 use Rattle.theory_elimination.specs.SameFormula.{is_same}
 use Rattle.theory_elimination.specs.Simplified.{first_ones}
-use Rattle.theory_signs.specs.declared.formula.Formula.{Formula}
-use Rattle.theory_signs.specs.Plain.{formula_of}
+use Rattle.theory_simplify.specs.declared.drafts.Draft.{Draft}
+use Rattle.theory_simplify.specs.Drafts.{draft_of}
 use Rattle.theory_simplify.proofs.FinishLemmas.{kept_one}
 use Rattle.theory_simplify.proofs.finishing.first_ones.Goals as goal
 
-pub loop-formula-preserved-in-Continue-1 : goal.loop-formula-preserved-in-Continue-1
-loop-formula-preserved-in-Continue-1 c =
-    let F = formula_of c.in-Some.formula in
-    let kept = c.loop-formula.kept.items in
-    let rest = map formula_of c.next.new.self.rest.items in
+pub loop-draft-preserved-in-Continue-1 : goal.loop-draft-preserved-in-Continue-1
+loop-draft-preserved-in-Continue-1 c =
+    let F = draft_of c.in-Some.draft in
+    let kept = c.loop-draft.kept.items in
+    let rest = map draft_of c.next.new.self.rest.items in
     ap (λ (Gs : List plain.Formula). Gs ++ first_ones Gs rest)
-    (ap (map formula_of) c.in_ok-push.ensures.items ∙ map-append formula_of kept (c.in-Some.formula ∷ []))
-    ∙ kept_one (map formula_of kept) F rest
-    (ap (λ (Gs : List Formula). list_any (is_same F) (map formula_of Gs)) (sym c.deref.ensures.value)
+    (ap (map draft_of) c.in_ok-push.ensures.items ∙ map-append draft_of kept (c.in-Some.draft ∷ []))
+    ∙ kept_one (map draft_of kept) F rest
+    (ap (λ (Gs : List Draft). list_any (is_same F) (map draft_of Gs)) (sym c.deref.ensures.value)
     ∙ sym c.stands_among.ensures ∙ c.if-not-stands_among.true)
-    ∙ ap (λ (Gs : List Formula). map formula_of kept ++ first_ones (map formula_of kept) (map formula_of Gs)) (sym c.in-Some.ensures.steps.0)
-    ∙ c.loop-formula.invariant
+    ∙ ap (λ (Gs : List Draft). map draft_of kept ++ first_ones (map draft_of kept) (map draft_of Gs)) (sym c.in-Some.ensures.steps.0)
+    ∙ c.loop-draft.invariant

@@ -1,10 +1,10 @@
 use Rattle.std.proofs.Common.{◌≡◌, drop, map}
 use Rattle.std.specs.List.{list_any}
 use Rattle.theory_elimination.specs.SameFormula.{is_same}
-use Rattle.theory_signs.specs.Plain.{formula_of}
+use Rattle.theory_simplify.specs.Drafts.{draft_of}
 use Rattle.theory_simplify.proofs.finishing.stands_among.Given as goal
 
 abbrev pub invariant-loop-other : goal.invariant-loop-other
 invariant-loop-other l =
-    list_any (is_same (formula_of l.formula)) (map formula_of (drop l.other-index l.formulas))
-    ≡ list_any (is_same (formula_of l.formula)) (map formula_of l.formulas)
+    list_any (is_same (draft_of l.draft)) (map draft_of (drop l.other-index l.drafts))
+    ≡ list_any (is_same (draft_of l.draft)) (map draft_of l.drafts)

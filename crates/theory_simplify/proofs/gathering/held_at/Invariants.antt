@@ -4,4 +4,4 @@ use Rattle.theory_simplify.proofs.gathering.held_at.Given as goal
 
 abbrev pub invariant-loop-place : goal.invariant-loop-place
 invariant-loop-place l =
-    option_map (λ h. (l.place + h.0, h.1)) (held_at l.poly (parts_of (drop l.place l.members))) ≡ held_at l.poly (parts_of l.members)
+    option_map (λ h. (l.place + h.0, h.1)) (held_at l.atom.poly (parts_of (drop l.place l.members))) ≡ held_at l.atom.poly (parts_of l.members)

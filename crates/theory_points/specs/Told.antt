@@ -1,0 +1,14 @@
+-- What an error tells its reader.
+use Rattle.std.specs.Prelude.{ℕ, List, codes}
+use Rattle.theory_points.specs.declared.limit.Limit.{Limit}
+use Rattle.theory_points.specs.declared.limit.Limit.TheVariants.{Wide, Memory}
+
+abbrev pub told_of_memory : List ℕ
+told_of_memory = codes "no memory"
+
+abbrev pub told_of_limit : List ℕ
+told_of_limit = codes "a result passes the limit"
+
+abbrev pub told_by : Limit → List ℕ
+told_by Wide = told_of_limit
+told_by Memory = told_of_memory
