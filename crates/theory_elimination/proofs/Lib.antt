@@ -20,3 +20,6 @@ pub mod BranchLaws
 pub mod PlanLists
 pub mod FreeTerms
 pub mod FreeBranches
+pub mod SummedTerms
+pub mod DividedTerms
+pub mod WrittenBranches

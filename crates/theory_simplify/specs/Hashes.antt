@@ -1,10 +1,11 @@
--- The numbers by which different polynomials are told apart at once.
+-- The numbers by which different polynomials and formulas are told apart at once.
 use Rattle.std.specs.Prelude.{ℕ, List, [], ◌∷◌, ◌++◌}
 use Rattle.std.specs.List.{fold}
 use Rattle.std.specs.Hash as hashed
 use Rattle.std.specs.Hash.FoldHasher as folding
 use Rattle.std.specs.declared.hash.FoldHasher.{FoldHasher}
 use Rattle.theory_method.specs.Terms.{Monomial}
+use Rattle.theory_method.specs.Formula.{Formula, Formulas, always, never, atom, conjunction, disjunction, none, more}
 
 -- a hasher that was fed a term: its coefficient, then its powers
 abbrev pub with_term : FoldHasher → Monomial → FoldHasher
@@ -13,3 +14,28 @@ with_term hasher t = fold folding.write hasher (hashed.i64 t.coefficient ++ t.po
 -- the hash of a polynomial: its terms in order
 abbrev pub hash_of : List Monomial → ℕ
 hash_of P = folding.finish (fold with_term folding.initial P)
+
+-- what tells formulas apart at first sight: the kind, and of an atom the hash of its polynomial
+abbrev pub head_of : Formula → ℕ
+head_of always = 0
+head_of never = 1
+head_of (atom P S) = hash_of P
+head_of (conjunction Fs) = 2
+head_of (disjunction Fs) = 3
+
+abbrev pub with_head : FoldHasher → Formula → FoldHasher
+with_head hasher F = fold folding.write hasher (hashed.u64 (head_of F))
+
+abbrev pub with_heads : FoldHasher → Formulas → FoldHasher
+with_heads hasher none = hasher
+with_heads hasher (more F Fs) = with_heads (with_head hasher F) Fs
+
+-- a hasher that was fed a formula: its head, and the heads of its members
+abbrev pub with_formula : FoldHasher → Formula → FoldHasher
+with_formula hasher (conjunction Fs) = with_heads (with_head hasher (conjunction Fs)) Fs
+with_formula hasher (disjunction Fs) = with_heads (with_head hasher (disjunction Fs)) Fs
+with_formula hasher F = with_head hasher F
+
+-- the hash of a formula
+abbrev pub hash_of_formula : Formula → ℕ
+hash_of_formula F = folding.finish (with_formula folding.initial F)

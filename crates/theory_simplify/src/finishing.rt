@@ -4,9 +4,11 @@ ghost use Rattle.std.specs.Option.{option_map};
 ghost use Rattle.theory_elimination.specs.SameFormula.{is_same};
 ghost use Rattle.theory_elimination.specs.Simplified.{first_ones, bundled, finished};
 ghost use Rattle.theory_simplify.specs.Drafts.{draft_of};
+ghost use Rattle.theory_simplify.specs.Hashes.{hash_of_formula};
 ghost use Rattle.theory_simplify.specs.Parts.{parts_in};
 
 use crate::drafts::{Draft, Drafts, decision};
+use crate::hashes::hash_of_draft;
 use crate::sameness::is_same;
 use std::alloc::Global;
 use theory_points::NoMemory;
@@ -31,23 +33,37 @@ fn first_ones<'a>(alloc: Global, drafts: Drafts<'a>) -> Result<Drafts<'a>, NoMem
         map draft_of Ds.items ≡ first_ones [] (map draft_of drafts.entry.items)) }
 {
     let mut kept = Vec::new(alloc);
+    let mut hashes = Vec::new(alloc);
     for draft in drafts {
-        if !stands_among(&kept, &draft) {
+        let hash = hash_of_draft(&draft);
+        if !stands_among(&kept, &hashes, &draft, hash) {
+            hashes.push(hash)?;
             kept.push(draft)?;
         }
     }
     Ok(kept)
 }
 
-fn stands_among(drafts: &[Draft<'_>], draft: &Draft<'_>) -> bool
+fn stands_among(drafts: &[Draft<'_>], hashes: &[u64], draft: &Draft<'_>, hash: u64) -> bool
+    requires hashes { hashes.now ≡ map hash_of_formula (map draft_of drafts.now) }
+    requires hash { hash ≡ hash_of_formula (draft_of draft.now) }
     ensures { result ≡ list_any (is_same (draft_of draft.now)) (map draft_of drafts.now) }
 {
-    for other in drafts {
-        if is_same(draft, other) {
+    for (place, other) in drafts.iter().enumerate() {
+        if have_one_tree(draft, hash, other, hashes[place]) {
             return true;
         }
     }
     false
+}
+
+/// Whether two drafts are the same tree: those with different hashes aren't read.
+fn have_one_tree(first: &Draft<'_>, hash: u64, second: &Draft<'_>, other: u64) -> bool
+    requires hash { hash ≡ hash_of_formula (draft_of first.now) }
+    requires other { other ≡ hash_of_formula (draft_of second.now) }
+    ensures { result ≡ is_same (draft_of first.now) (draft_of second.now) }
+{
+    hash == other && is_same(first, second)
 }
 
 /// All or some of the drafts: one stands for itself.

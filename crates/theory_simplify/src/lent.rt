@@ -1,8 +1,10 @@
 ghost use Rattle.std.specs.Prelude.{◌≡◌, IfOk};
 ghost use Rattle.theory_elimination.specs.SameFormula.{is_same_poly};
 ghost use Rattle.theory_signs.specs.Condition.{condition};
+ghost use Rattle.theory_simplify.specs.Hashes.{hash_of};
 
-use crate::polynomials::{hash_of, is_same_poly};
+use crate::hashes::hash_poly;
+use crate::polynomials::is_same_poly;
 use std::alloc::Global;
 use std::marker::Model;
 use theory_points::NoMemory;
@@ -35,7 +37,7 @@ impl<'a> LentAtom<'a> {
         LentAtom {
             atom,
             signs: atom.signs(),
-            hash: hash_of(atom.poly()),
+            hash: hash_poly(atom.poly()),
         }
     }
 
@@ -44,6 +46,13 @@ impl<'a> LentAtom<'a> {
         ensures { result ≡ self.now.signs }
     {
         self.signs
+    }
+
+    /// The hash of the polynomial.
+    pub fn hash(&self) -> u64
+        ensures { result ≡ hash_of self.now.poly }
+    {
+        self.hash
     }
 
     /// The same polynomial with these signs.

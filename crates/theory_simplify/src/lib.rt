@@ -8,6 +8,7 @@ mod facts;
 mod finishing;
 mod flattening;
 mod gathering;
+mod hashes;
 mod lent;
 mod polynomials;
 #[cfg(test)]

@@ -2,9 +2,7 @@ ghost use Rattle.std.specs.Prelude.{◌≡◌, ◌&&◌};
 ghost use Rattle.std.specs.Ordering.{int_eq};
 ghost use Rattle.std.specs.Str.{bytes_eq};
 ghost use Rattle.theory_elimination.specs.SameFormula.{is_same_poly};
-ghost use Rattle.theory_simplify.specs.Hashes.{with_term, hash_of};
 
-use std::hash::{FoldHasher, Hasher};
 use theory_poly::{Poly, Term};
 
 /// Whether two polynomials have the same terms in the same order.
@@ -33,28 +31,4 @@ fn is_same_term(first: &Term, second: &Term) -> bool
         && bytes_eq first.now.powers second.now.powers }
 {
     first.coefficient == second.coefficient && first.powers == second.powers
-}
-
-/// A number that is the same for the same polynomials, and mostly another one for others.
-pub fn hash_of(poly: &Poly) -> u64
-    ensures { result ≡ hash_of poly.now }
-{
-    hash_of_terms(poly.terms())
-}
-
-fn hash_of_terms(terms: &[Term]) -> u64
-    ensures { result ≡ hash_of terms.now }
-{
-    let mut hasher = FoldHasher::default();
-    for term in terms {
-        hash_term(&mut hasher, term);
-    }
-    hasher.finish()
-}
-
-fn hash_term(hasher: &mut FoldHasher, term: &Term)
-    ensures { hasher.new ≡ with_term hasher.old term.now }
-{
-    hasher.write_i64(term.coefficient);
-    hasher.write(&term.powers);
 }

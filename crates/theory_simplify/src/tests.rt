@@ -53,6 +53,7 @@ fn atoms_under_facts(rt: HostRuntime) -> Result<(), Fail> {
         ("&(x>= |(x> y=))", "&(x>= |(x> y=))"),
         ("&(x<> |(x>= y=))", "&(x<> |(x>= y=))"),
         ("&(x= |(x<> x> y=))", "&(x= y=)"),
+        ("&(x>= |(x< y=) x<=)", "&(x= y=)"),
         ("&(x>= |(y= x<) x<=)", "&(x= y=)"),
     ];
     assert_eq!(rt; wrong_row(rt.alloc(), &rows)?, None);
