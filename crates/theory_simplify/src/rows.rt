@@ -105,9 +105,11 @@ pub fn atom(alloc: Global, letter: char, set: [bool; 3]) -> Result<Formula, Limi
 
 /// Adds a condition on each of x, x + 1, .. x + 255.
 pub fn add_conditions(alloc: Global, signs: Signs, members: &mut Formulas) -> Result<(), Limit> {
-    for k in 0..256 {
-        let moved = poly(alloc, 'x')?.add(alloc, &Poly::constant(alloc, k)?)?;
+    let one = Poly::constant(alloc, 1)?;
+    let mut moved = poly(alloc, 'x')?;
+    for _ in 0..256 {
         keep(members, make_atom(alloc, &moved, signs)?)?;
+        moved = moved.add(alloc, &one)?;
     }
     Ok(())
 }
