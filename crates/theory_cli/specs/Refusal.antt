@@ -6,33 +6,20 @@ use Rattle.theory_meaning.specs.ModelFault.{ModelFault}
 use Rattle.theory_meaning.specs.Point.{Name}
 use Rattle.theory_meaning.specs.Text.{Numbered}
 use Rattle.theory_meaning.specs.Tree.{Line}
-use Rattle.theory_grammar.specs.declared.text_kind.TextKind.{TextKind}
-use Rattle.theory_grammar.specs.declared.text_kind.TextKind.TheVariants as text
 use Rattle.theory_grammar.specs.TextFault.{Fault, cut_lines}
 use Rattle.theory_grammar.specs.Texts.{SpellsLines, IsFirstFault}
-use Rattle.theory_model.specs.Told.{printed_kind}
+use Rattle.theory_model.specs.Told.{printed_kind as printed_model_kind}
+use Rattle.theory_text.specs.Told.{printed_kind as printed_text_kind}
 use Rattle.theory_one_variable.specs.OneVariable.{IsOneVariable}
 use Rattle.theory_one_variable.specs.ReadLines.{unnumbered, IsNotYet}
 
--- the printed name of a kind of fault of a text; want of memory is no fault, and is never printed so
-abbrev pub text_kind_name : TextKind → List ℕ
-text_kind_name text.TooLong = codes "TooLong"
-text_kind_name text.NotUtf8 = codes "NotUtf8"
-text_kind_name text.BadToken = codes "BadToken"
-text_kind_name text.Unexpected = codes "Unexpected"
-text_kind_name text.LiteralWide = codes "LiteralWide"
-text_kind_name text.ZeroBelow = codes "ZeroBelow"
-text_kind_name text.Exponent = codes "Exponent"
-text_kind_name text.Deep = codes "Deep"
-text_kind_name text.Memory = codes "Memory"
-
 -- a fault of a text: its line, its column and its kind
 abbrev pub text_fault_text : Fault → List ℕ
-text_fault_text f = codes ":" ++ decimal f.line ++ codes ":" ++ decimal f.column ++ codes ": " ++ text_kind_name f.kind
+text_fault_text f = codes ":" ++ decimal f.line ++ codes ":" ++ decimal f.column ++ codes ": " ++ printed_text_kind f.kind
 
 -- a fault of a model: its line and its kind
 abbrev pub model_fault_text : ModelFault → List ℕ
-model_fault_text f = codes ":" ++ decimal f.at ++ codes ": " ++ printed_kind f.kind
+model_fault_text f = codes ":" ++ decimal f.at ++ codes ": " ++ printed_model_kind f.kind
 
 -- a model that isn't decided yet, with a line
 abbrev pub not_yet_text : ℕ → List ℕ

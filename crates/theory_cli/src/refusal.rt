@@ -1,13 +1,13 @@
 ghost use Rattle.std.specs.Prelude.{◌≡◌, ◌++◌, OnOk, decimal, codes};
-ghost use Rattle.theory_cli.specs.Refusal.{text_kind_name, text_fault_text};
+ghost use Rattle.theory_cli.specs.Refusal.{text_fault_text};
 ghost use Rattle.theory_cli.specs.Running.{refusal_text};
 ghost use Rattle.theory_text.specs.Answers.{fault_of};
 
 use crate::printing::add_number;
 use std::alloc::Global;
-use theory_model::{ModelFault, kind_name};
+use theory_model::ModelFault;
 use theory_points::{Bytes, NoMemory};
-use theory_text::{TextError, TextKind};
+use theory_text::TextError;
 
 /// Why the bytes of a file aren't answered, each looked for where those before it don't hold.
 #[derive(Clone, Copy, Debug, PartialEq, Eq)]
@@ -26,7 +26,10 @@ pub fn add_refusal(alloc: Global, text: &mut Bytes, refusal: Refusal) -> Result<
 {
     match refusal {
         Refusal::Text(error) => add_text_fault(alloc, text, error),
-        Refusal::Model(fault) => add_kind(alloc, text, fault.at, kind_name(fault.kind).as_bytes()),
+        Refusal::Model(fault) => {
+            let kind = theory_model::kind_name(fault.kind);
+            add_kind(alloc, text, fault.at, kind.as_bytes())
+        }
         Refusal::NotYet(line) => add_kind(alloc, text, line, b"NotYet"),
     }
 }
@@ -36,7 +39,8 @@ fn add_text_fault(alloc: Global, text: &mut Bytes, error: TextError) -> Result<(
 {
     text.extend(b":")?;
     add_number(alloc, text, u64::from(error.line))?;
-    add_kind(alloc, text, error.column, text_kind(error.kind))
+    let kind = theory_text::kind_name(error.kind);
+    add_kind(alloc, text, error.column, kind.as_bytes())
 }
 
 // Adds a number and what is wrong there.
@@ -53,20 +57,4 @@ fn add_kind(
     add_number(alloc, text, u64::from(number))?;
     text.extend(b": ")?;
     text.extend(kind)
-}
-
-fn text_kind(kind: TextKind) -> &'static [u8]
-    ensures { result.now ≡ text_kind_name kind }
-{
-    match kind {
-        TextKind::TooLong => b"TooLong",
-        TextKind::NotUtf8 => b"NotUtf8",
-        TextKind::BadToken => b"BadToken",
-        TextKind::Unexpected => b"Unexpected",
-        TextKind::LiteralWide => b"LiteralWide",
-        TextKind::ZeroBelow => b"ZeroBelow",
-        TextKind::Exponent => b"Exponent",
-        TextKind::Deep => b"Deep",
-        TextKind::Memory => b"Memory",
-    }
 }

@@ -1,3 +1,5 @@
+use std::error::Error;
+use std::fmt;
 use theory_grammar::LineFaultKind;
 use theory_points::NoMemory;
 
@@ -9,6 +11,25 @@ pub enum ParseFault {
     /// Want of memory.
     Memory,
 }
+
+impl fmt::Display for ParseFault {
+    ghost use Rattle.std.specs.Prelude.{Some};
+    ghost use Rattle.theory_line.specs.Told.{told_by};
+
+    ghost output = { λ fault. Some (told_by fault) };
+
+    fn fmt<W: fmt::Write>(&self, f: &mut fmt::Formatter<W>) -> fmt::Result {
+        f.write_str(match self {
+            ParseFault::At(LineFaultKind::Unexpected, _) => "a token at which no line goes on",
+            ParseFault::At(LineFaultKind::ZeroBelow, _) => "a fraction over 0",
+            ParseFault::At(LineFaultKind::Exponent, _) => "an exponent that isn't from 1 to 8",
+            ParseFault::At(LineFaultKind::Deep, _) => "more than 32 open signs",
+            ParseFault::Memory => "no memory",
+        })
+    }
+}
+
+impl Error for ParseFault {}
 
 impl From<NoMemory> for ParseFault {
     ghost use Rattle.std.specs.Prelude.{◌≡◌};

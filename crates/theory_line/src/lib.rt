@@ -1,7 +1,7 @@
 //! The tokens of one line, read as a line of a model or as an edit.
 //!
-//! `parse_line` and `parse_op` give the tree that the tokens spell by the grammar of `theory_grammar`,
-//! or their first fault. Read `parse_line` first.
+//! `parse_line` and `parse_op` give the tree that the tokens spell by the grammar of
+//! `theory_grammar`, or their first fault. Read `parse_line` first.
 #![tactic(auto)]
 
 mod claim_nodes;
@@ -20,6 +20,8 @@ mod literals;
 mod names;
 mod next;
 mod nodes;
+#[cfg(test)]
+mod telling_tests;
 
 pub use edits::parse_op;
 pub use fault::ParseFault;

@@ -5,3 +5,4 @@ pub mod Cut
 pub mod Checked
 pub mod LineRead
 pub mod Added
+pub mod Told

@@ -13,10 +13,12 @@ mod reading;
 #[cfg(test)]
 mod reading_tests;
 #[cfg(test)]
+mod telling_tests;
+#[cfg(test)]
 mod tests;
 mod whole;
 
-pub use error::TextError;
+pub use error::{TextError, kind_name};
 pub use reading::{read_line, read_ops, read_text};
 pub use theory_grammar::TextKind;
 pub use theory_print::{print_claim, print_expr, print_line};
