@@ -18,7 +18,8 @@ onto_length b (l ∷ ls) = omega arith
 
 cut_length : (b : ℕ) (bytes : List ℕ) → length (cut_lines (b ∷ bytes)) ≡ (if b == 10 then 1 + length (cut_lines bytes) else max 1 (length (cut_lines bytes)))
 cut_length b bytes =
-    elim (b == 10) as (λ t. length (if t then [] ∷ cut_lines bytes else onto_first b (cut_lines bytes)) ≡ (if t then 1 + length (cut_lines bytes) else max 1 (length (cut_lines bytes)))) [
+    elim (b == 10) as (λ t. length (if t then [] ∷ cut_lines bytes else onto_first b (cut_lines bytes)) ≡
+    (if t then 1 + length (cut_lines bytes) else max 1 (length (cut_lines bytes)))) [
       | true ↦ omega arith
       | false ↦ onto_length b (cut_lines bytes)
     ]

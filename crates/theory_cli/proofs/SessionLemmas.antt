@@ -40,18 +40,21 @@ told_then_cut a b h i j f g k first second = record {
 
 replies_text-push : (rs : List Reply) (r : Reply) → replies_text (rs ++ r ∷ []) ≡ replies_text rs ++ reply_text r
 replies_text-push [] r = append-nil (reply_text r)
-replies_text-push (q ∷ rs) r = ap (λ (l : List ℕ). reply_text q ++ l) (replies_text-push rs r) ∙ sym (append_assoc (reply_text q) (replies_text rs) (reply_text r))
+replies_text-push (q ∷ rs) r = ap (λ (l : List ℕ). reply_text q ++ l) (replies_text-push rs r)
+    ∙ sym (append_assoc (reply_text q) (replies_text rs) (reply_text r))
 
 -- one more answer
 answers-push : (model x : Name) (assumed : List Claim) (asked : List (Name × Claim)) (answers : List Reply) (one : Name × Claim) (r : Reply) →
-    AreAnswers model x assumed asked answers → AreAnswers model x assumed (one ∷ []) (r ∷ []) → AreAnswers model x assumed (asked ++ one ∷ []) (answers ++ r ∷ [])
+    AreAnswers model x assumed asked answers → AreAnswers model x assumed (one ∷ []) (r ∷ []) →
+    AreAnswers model x assumed (asked ++ one ∷ []) (answers ++ r ∷ [])
 answers-push model x assumed [] [] one r h k = k
 answers-push model x assumed [] (q ∷ answers) one r h k = absurd (let bad : ◌≡◌ {A = List Reply} (q ∷ answers) [] = h in cc)
 answers-push model x assumed (a ∷ asked) [] one r h k = absurd h
 answers-push model x assumed (a ∷ asked) (reply.Created c ∷ answers) one r h k = absurd h
 answers-push model x assumed (a ∷ asked) (reply.Answered b ∷ answers) one r h k = (h.0, answers-push model x assumed asked answers one r h.1 k)
 
-one_answer : (model x : Name) (rows : List Line) (one : Name × Claim) (r : Reply) → IsAnswering model x rows one r → AreAnswers model x (assumptions_of rows) (one ∷ []) (r ∷ [])
+one_answer : (model x : Name) (rows : List Line) (one : Name × Claim) (r : Reply) → IsAnswering model x rows one r →
+    AreAnswers model x (assumptions_of rows) (one ∷ []) (r ∷ [])
 one_answer model x rows one (reply.Created c) h = absurd h
 one_answer model x rows one (reply.Answered a) h = (h, refl)
 
@@ -71,10 +74,15 @@ first_replies model x rows left replies a = subst (AreFirstReplies model x rows)
 all_replies : (model x : Name) (rows : List Line) (replies : List Reply) → AnsweredTo model x rows [] replies → AreReplies model x rows replies
 all_replies model x rows replies a =
     let all : a.asked ≡ claims_of rows = sym (append-nil a.asked) ∙ a.split in
-    subst (AreReplies model x rows) (sym a.are) (a.creation, subst (λ (l : List (Name × Claim)). AreAnswers model x (assumptions_of rows) l a.answers) all a.answered)
+    subst (AreReplies model x rows) (sym a.are) (
+      a.creation,
+      subst
+          (λ (l : List (Name × Claim)). AreAnswers model x (assumptions_of rows) l a.answers) all a.answered,
+    )
 
 -- one more answer was told
-answered_more : (model x : Name) (rows left : List Line) (one : Name × Claim) (old new : List Reply) (r : Reply) → IsAnswering model x rows one r → new ≡ old ++ r ∷ [] →
+answered_more : (model x : Name) (rows left : List Line) (one : Name × Claim) (old new : List Reply) (r : Reply) → IsAnswering model x rows one r →
+    new ≡ old ++ r ∷ [] →
     (later : List Line) → claims_of left ≡ one ∷ claims_of later → AnsweredTo model x rows left old → AnsweredTo model x rows later new
 answered_more model x rows left one old new r is more later next a = record {
   first = a.first;
@@ -97,17 +105,21 @@ begun model x rows old new held held' faults faults' empty (r, is, more, told) =
     let are : new ≡ r ∷ [] = more ∙ ap (λ (l : List Reply). l ++ r ∷ []) empty in
     record {
       answered = record { first = r; answers = []; asked = []; are = are; creation = is; split = refl; answered = refl };
-      told = subst (λ (l : List Reply). IsTold (replies_text l) held held' faults faults') (sym are) (subst (λ (t : List ℕ). IsTold t held held' faults faults') (sym (append-nil (reply_text r))) told);
+      told = subst (λ (l : List Reply). IsTold (replies_text l) held held' faults faults') (sym are)
+          (subst (λ (t : List ℕ). IsTold t held held' faults faults') (sym (append-nil (reply_text r))) told);
     }
 
 -- the lines from one row on
-row_ahead : (x : Name) (rows : List Row) (k : ℕ) (row : Row) → k < length rows → row ≡ get_or rows k row → row_lines x (drop k rows) ≡ row_line x row ∷ row_lines x (drop (k + 1) rows)
+row_ahead : (x : Name) (rows : List Row) (k : ℕ) (row : Row) → k < length rows → row ≡ get_or rows k row →
+    row_lines x (drop k rows) ≡ row_line x row ∷ row_lines x (drop (k + 1) rows)
 row_ahead x rows k row within is = rw (add-one, drop-cons rows k row) (ap (λ (r : Row). row_line x r ∷ row_lines x (drop (suc k) rows)) (sym is))
 
-claim_ahead : (x : Name) (kind : Role) (label : Name) (c : Claim) (lines : List Line) → kind ≡ role.Claim → claims_of (line_as kind label c ∷ lines) ≡ (label, c) ∷ claims_of lines
+claim_ahead : (x : Name) (kind : Role) (label : Name) (c : Claim) (lines : List Line) → kind ≡ role.Claim →
+    claims_of (line_as kind label c ∷ lines) ≡ (label, c) ∷ claims_of lines
 claim_ahead x kind label c lines is = subst (λ (k : Role). claims_of (line_as k label c ∷ lines) ≡ (label, c) ∷ claims_of lines) (sym is) refl
 
-no_claim_ahead : (x : Name) (kind : Role) (label : Name) (c : Claim) (lines : List Line) → kind ≡ role.Assumption → claims_of (line_as kind label c ∷ lines) ≡ claims_of lines
+no_claim_ahead : (x : Name) (kind : Role) (label : Name) (c : Claim) (lines : List Line) → kind ≡ role.Assumption →
+    claims_of (line_as kind label c ∷ lines) ≡ claims_of lines
 no_claim_ahead x kind label c lines is = subst (λ (k : Role). claims_of (line_as k label c ∷ lines) ≡ claims_of lines) (sym is) refl
 
 module _ (model x : Name) (rows : List Row) (k : ℕ) (row : Row) (within : k < length rows) (is : row ≡ get_or rows k row) where
@@ -118,7 +130,15 @@ module _ (model x : Name) (rows : List Row) (k : ℕ) (row : Row) (within : k < 
       let same : claims_of (row_lines x (drop k rows)) ≡ claims_of (row_lines x (drop (k + 1) rows)) =
       ap claims_of (row_ahead x rows k row within is) ∙ no_claim_ahead x row.role row.label (atom_claim x row.atom) (row_lines x (drop (k + 1) rows)) kind in
       record {
-        answered = record { first = a.first; answers = a.answers; asked = a.asked; are = a.are; creation = a.creation; split = ap (λ (l : List (Name × Claim)). a.asked ++ l) (sym same) ∙ a.split; answered = a.answered };
+        answered = record {
+          first = a.first;
+          answers = a.answers;
+          asked = a.asked;
+          are = a.are;
+          creation = a.creation;
+          split = ap (λ (l : List (Name × Claim)). a.asked ++ l) (sym same) ∙ a.split;
+          answered = a.answered;
+        };
         told = g.told;
       }
 
@@ -129,7 +149,8 @@ module _ (model x : Name) (rows : List Row) (k : ℕ) (row : Row) (within : k < 
       TellsOne (IsAnswering model x (row_lines x rows) (row.label, atom_claim x row.atom)) old new held' held'' faults' faults'' (Ok tt) →
       GoneOn model x rows k old held held' faults faults' → GoneOn model x rows (k + 1) new held held'' faults faults''
   answered_row old new held held' held'' faults faults' faults'' kind (r, answers, more, told) g = record {
-    answered = answered_more model x (row_lines x rows) (row_lines x (drop k rows)) (row.label, atom_claim x row.atom) old new r answers more (row_lines x (drop (k + 1) rows)) (ahead kind) g.answered;
+    answered = answered_more model x (row_lines x rows) (row_lines x (drop k rows)) (row.label, atom_claim x row.atom) old new r answers more
+        (row_lines x (drop (k + 1) rows)) (ahead kind) g.answered;
     told = subst (λ (t : List ℕ). IsTold t held held'' faults faults'') (sym (ap replies_text more ∙ replies_text-push old r))
         (told_both (replies_text old) (reply_text r) held held' held'' faults faults' faults'' g.told told);
   }
@@ -139,7 +160,8 @@ module _ (model x : Name) (rows : List Row) (k : ℕ) (row : Row) (within : k < 
       GoneOn model x rows k old held held' faults faults' → Answers model x (row_lines x rows) new held held'' faults faults'' (Err h)
   halted Unwritten old new held held' held'' faults faults' faults'' kind (r, answers, more, cut) g = (
     first_replies model x (row_lines x rows) (row_lines x (drop (k + 1) rows)) new
-        (answered_more model x (row_lines x rows) (row_lines x (drop k rows)) (row.label, atom_claim x row.atom) old new r answers more (row_lines x (drop (k + 1) rows)) (ahead kind) g.answered),
+        (answered_more model x (row_lines x rows) (row_lines x (drop k rows)) (row.label, atom_claim x row.atom) old new r answers more
+        (row_lines x (drop (k + 1) rows)) (ahead kind) g.answered),
     subst (λ (t : List ℕ). IsCutOff t held held'' faults faults'') (sym (ap replies_text more ∙ replies_text-push old r))
         (told_then_cut (replies_text old) (reply_text r) held held' held'' faults faults' faults'' g.told cut),
   )
@@ -154,13 +176,20 @@ pub halted_at_once : (model x : Name) (rows : List Row) (h : Halt) (old new : Li
 halted_at_once model x rows Unwritten old new held held' faults faults' empty (r, is, more, cut) =
     let are : new ≡ r ∷ [] = more ∙ ap (λ (l : List Reply). l ++ r ∷ []) empty in (
       subst (AreFirstReplies model x (row_lines x rows)) (sym are) (is, ([], claims_of (row_lines x rows), refl, refl)),
-      subst (λ (l : List Reply). IsCutOff (replies_text l) held held' faults faults') (sym are) (subst (λ (t : List ℕ). IsCutOff t held held' faults faults') (sym (append-nil (reply_text r))) cut),
+      subst (λ (l : List Reply). IsCutOff (replies_text l) held held' faults faults') (sym are)
+          (subst (λ (t : List ℕ). IsCutOff t held held' faults faults') (sym (append-nil (reply_text r))) cut),
     )
 halted_at_once model x rows NoMemory old new held held' faults faults' empty (same, told) =
-    let are : new ≡ [] = same ∙ empty in
-    (subst (AreFirstReplies model x (row_lines x rows)) (sym are) tt, subst (λ (l : List Reply). IsTold (replies_text l) held held' faults faults') (sym are) told)
+    let are : new ≡ [] = same ∙ empty in (
+      subst (AreFirstReplies model x (row_lines x rows)) (sym are) tt,
+      subst
+          (λ (l : List Reply). IsTold (replies_text l) held held' faults faults') (sym are) told,
+    )
 
 pub answered_all : (model x : Name) (rows : List Row) (k : ℕ) (replies : List Reply) (held held' : Option (List ℕ)) (faults faults' : ℕ) → length rows ≤ k →
     GoneOn model x rows k replies held held' faults faults' → Answers model x (row_lines x rows) replies held held' faults faults' (Ok tt)
-answered_all model x rows k replies held held' faults faults' end g =
-    (all_replies model x (row_lines x rows) replies (subst (λ (l : List Row). AnsweredTo model x (row_lines x rows) (row_lines x l) replies) (drop_all k rows end) g.answered), g.told)
+answered_all model x rows k replies held held' faults faults' end g = (
+  all_replies model x (row_lines x rows) replies (subst (λ (l : List Row). AnsweredTo model x (row_lines x rows) (row_lines x l) replies)
+      (drop_all k rows end) g.answered),
+  g.told,
+)

@@ -37,6 +37,7 @@ half_text names found_wide = codes "some point, not printable"
 half_text names absent = codes "none"
 half_text names (left cause) = []
 
+-- the printed word of a verdict
 abbrev pub verdict_text : Verdict → List ℕ
 verdict_text Holds = codes "true"
 verdict_text Fails = codes "false"

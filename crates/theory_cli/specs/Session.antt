@@ -64,6 +64,7 @@ pub record IsClosedAnswer (a : Answer) : Type 0 where
   pub counter : IsClosedHalf (half_of a.counter)
   pub no_region : a.region ≡ None
 
+-- a reply with nothing left open
 abbrev pub IsClosed : Reply → Type 0
 IsClosed (reply.Created c) = Unit {0}
 IsClosed (reply.Answered a) = IsClosedAnswer a

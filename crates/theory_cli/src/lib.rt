@@ -2,8 +2,9 @@
 //!
 //! `theory` reads the file that the words name, answers each claim of its text, and writes the
 //! replies, or says why the text or its model is refused. Its clauses say which replies those are,
-//! what is written, what is the cause of each status, and that one-variable texts are answered; their
-//! words are in `specs/Ending.antt`, `specs/Refusal.antt`, `specs/Session.antt`. Read `theory` first.
+//! what is written, what is the cause of each status, and that one-variable texts are answered;
+//! their words are in `specs/Ending.antt`, `specs/Refusal.antt`, `specs/Session.antt`. Read
+//! `theory` first.
 #![tactic(auto)]
 
 mod answer;

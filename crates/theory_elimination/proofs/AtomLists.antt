@@ -70,7 +70,8 @@ mutual
   each_follows Q R (conjunction Fs) f h = all_follow Q R Fs f h
   each_follows Q R (disjunction Fs) f h = all_follow Q R Fs f h
 
-  all_follow : (Q R : List Monomial → Signs → Type 0) (Fs : Formulas) → ((P : List Monomial) (S : Signs) → Q P S → R P S) → EachAtomOfAll Q Fs → EachAtomOfAll R Fs
+  all_follow : (Q R : List Monomial → Signs → Type 0) (Fs : Formulas) → ((P : List Monomial) (S : Signs) → Q P S → R P S) →
+      EachAtomOfAll Q Fs → EachAtomOfAll R Fs
   all_follow Q R none f h = tt
   all_follow Q R (more F Fs) f h = (each_follows Q R F f h.0, all_follow Q R Fs f h.1)
 

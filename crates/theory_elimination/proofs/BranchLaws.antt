@@ -172,7 +172,8 @@ module _ (x : ℕ) (p : Values) where
       let moved = subst (λ (o : Sign). CanSum (sign_on m v) (times (slope_sign m) o) (sign_on m w)) k (sign_along m v w) in
       level_signs (sign_on m v) (sign_on m w) (subst (λ (t : Sign). CanSum (sign_on m v) t (sign_on m w)) (times_zero (slope_sign m)) moved)
 
-  same_at_values : (v w : Fraction) (F : Formula) → way v w ≡ Zero → IsLinear x F → IsTrue (truth_by (reading_cut x p (on v)) F) → IsTrue (truth_by (reading_cut x p (on w)) F)
+  same_at_values : (v w : Fraction) (F : Formula) → way v w ≡ Zero → IsLinear x F → IsTrue (truth_by (reading_cut x p (on v)) F) →
+      IsTrue (truth_by (reading_cut x p (on w)) F)
   same_at_values v w F k l t =
       same_reading x (reading_cut x p (on v)) (reading_cut x p (on w)) F (λ P S h. ap (has S) (sym (same_on (line_of x p P) v w k))) l t
 
@@ -212,16 +213,19 @@ module _ (x : ℕ) (p : Values) where
   at_root_value P G F w n l t =
       let r = root_of (line_of x p P) in
       cut_value (on r) F l
-      (w (reading_cut x p (on r)) ∙ both_true (reading_cut x p (on r) P set.Zero) (truth_by (reading_cut x p (on r)) G) (ap (has set.Zero) (zero_at_root (line_of x p P) n)) t)
+      (w (reading_cut x p (on r)) ∙ both_true (reading_cut x p (on r) P set.Zero) (truth_by (reading_cut x p (on r)) G)
+      (ap (has set.Zero) (zero_at_root (line_of x p P) n)) t)
 
   -- a formula that is true has the equation's root as its value, where the slope isn't zero
   others_at_root : (P : List Monomial) (G F : Formula) → ((r : Reading) → truth_by r F ≡ r P set.Zero && truth_by r G)
-      → (slope_sign (line_of x p P) ≡ Zero → ⊥) → IsLinear x F → IsLinear x G → IsTrueAt p F → IsTrue (truth_by (reading_cut x p (on (root_of (line_of x p P)))) G)
+      → (slope_sign (line_of x p P) ≡ Zero → ⊥) → IsLinear x F → IsLinear x G → IsTrueAt p F →
+      IsTrue (truth_by (reading_cut x p (on (root_of (line_of x p P)))) G)
   others_at_root P G F w n l m t =
       let v = symbol_at x p in
       let r = root_of (line_of x p P) in
       let here = sym (w (reading_cut x p (on v))) ∙ at_own_value x p F l t in
-      let zero : sign_on (line_of x p P) v ≡ Zero = zero_sign (sign_on (line_of x p P) v) (left_true (reading_cut x p (on v) P set.Zero) (truth_by (reading_cut x p (on v)) G) here) in
+      let zero : sign_on (line_of x p P) v ≡ Zero = zero_sign (sign_on (line_of x p P) v)
+      (left_true (reading_cut x p (on v) P set.Zero) (truth_by (reading_cut x p (on v)) G) here) in
       same_at_values v r G (level_way (line_of x p P) v r n zero (zero_at_root (line_of x p P) n)) m
       (right_true (reading_cut x p (on v) P set.Zero) (truth_by (reading_cut x p (on v)) G) here)
 
@@ -245,7 +249,8 @@ module _ (x : ℕ) (p : Values) where
       let line = line_of x p P in
       let three = of_three (truth_at flat p) (truth_at zero p) (truth_at G p) t in
       let slope : slope_sign line ≡ Zero =
-      slope_sign_is p (slope_in x P) (base_in x P) ∙ zero_sign (sign_at (slope_in x P) p) (sym (condition_truth (slope_in x P) set.Zero flat p h f) ∙ three.0) in
+      slope_sign_is p (slope_in x P) (base_in x P) ∙ zero_sign (sign_at (slope_in x P) p)
+      (sym (condition_truth (slope_in x P) set.Zero flat p h f) ∙ three.0) in
       let base : base_sign line ≡ Zero =
       base_sign_is p (slope_in x P) (base_in x P) ∙ zero_sign (sign_at (base_in x P) p) (sym (condition_truth (base_in x P) set.Zero zero p k z) ∙ three.1) in
       cut_value (on v) F l
@@ -253,14 +258,16 @@ module _ (x : ℕ) (p : Values) where
       (ap (has set.Zero) (flat_at_cut line (on v) slope ∙ base)) (at_own_value x p G m three.2))
 
   flat_branch : (P : List Monomial) (G F flat zero : Formula) → ((r : Reading) → truth_by r F ≡ r P set.Zero && truth_by r G) → IsPolynomial (slope_in x P)
-      → IsPolynomial (base_in x P) → IsLinear x F → IsAtomOf (slope_in x P) set.Zero flat → IsAtomOf (base_in x P) set.Zero zero → slope_sign (line_of x p P) ≡ Zero
+      → IsPolynomial (base_in x P) → IsLinear x F → IsAtomOf (slope_in x P) set.Zero flat → IsAtomOf (base_in x P) set.Zero zero →
+      slope_sign (line_of x p P) ≡ Zero
       → IsTrueAt p F → IsTrueAt p (conjunction (more flat (more zero (more G none))))
   flat_branch P G F flat zero w h k l f z n t =
       let v = symbol_at x p in
       let line = line_of x p P in
       let here = sym (w (reading_at p)) ∙ t in
       let cut = sym (w (reading_cut x p (on v))) ∙ at_own_value x p F l t in
-      let level : sign_on line v ≡ Zero = zero_sign (sign_on line v) (left_true (reading_cut x p (on v) P set.Zero) (truth_by (reading_cut x p (on v)) G) cut) in
+      let level : sign_on line v ≡ Zero = zero_sign (sign_on line v)
+      (left_true (reading_cut x p (on v) P set.Zero) (truth_by (reading_cut x p (on v)) G) cut) in
       let base : sign_at (base_in x P) p ≡ Zero = sym (base_sign_is p (slope_in x P) (base_in x P)) ∙ sym (flat_at_cut line (on v) n) ∙ level in
       let slope : sign_at (slope_in x P) p ≡ Zero = sym (slope_sign_is p (slope_in x P) (base_in x P)) ∙ n in
       three_true (truth_at flat p) (truth_at zero p) (truth_at G p) (condition_truth (slope_in x P) set.Zero flat p h f ∙ ap (has set.Zero) slope)
@@ -274,8 +281,11 @@ module _ (x : ℕ) (p : Values) where
       let ordered = part_is_polynomial x 1 P h.poly.canonical.ordered in
       let s = constant_sign (slope_in x P) in
       let sign = constant_sign_is (slope_in x P) p ordered k in
-      let sloped = constant_is_sloped (slope_in x P) ordered k (some_slope x P o h.linear) in
-      (λ B b t. at_root_value P G F w (not_level P s sign sloped) l (sym (formula_truth x p (root (slope_in x P) (base_in x P) s) (sign, sloped) G B m b) ∙ t), tt)
+      let sloped = constant_is_sloped (slope_in x P) ordered k (some_slope x P o h.linear) in (
+        λ B b t. at_root_value P G F w (not_level P s sign sloped) l
+            (sym (formula_truth x p (root (slope_in x P) (base_in x P) s) (sign, sloped) G B m b) ∙ t),
+        tt,
+      )
   equation_sound false P G F k w h o l m =
       let slope = part_is_polynomial x 1 P h.poly.canonical.ordered in
       let base = part_is_polynomial x 0 P h.poly.canonical.ordered in (

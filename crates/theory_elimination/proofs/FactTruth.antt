@@ -40,7 +40,8 @@ known_has p P (f ∷ K) T h e =
 -- a condition that facts decide is as they say
 judged_as : (S T : Signs) (s : Sign) (b : Bool) → has T s ≡ true → judged_by S (Some T) ≡ Some b → has S s ≡ b
 judged_as S T s b h e =
-    elim (are_apart (meet T S)) as (λ a. are_apart (meet T S) ≡ a → (if a then Some false else (if is_within T S then Some true else None)) ≡ Some b → has S s ≡ b) [
+    elim (are_apart (meet T S)) as (λ a. are_apart (meet T S) ≡ a →
+    (if a then Some false else (if is_within T S then Some true else None)) ≡ Some b → has S s ≡ b) [
       | true ↦ λ apart e'. let told : false ≡ b = cc in apart_has T S s apart h ∙ told
       | false ↦ λ touch e'.
           elim (is_within T S) as (λ w. is_within T S ≡ w → (if w then Some true else None) ≡ Some b → has S s ≡ b) [

@@ -118,8 +118,10 @@ module _ (x : ℕ) where
 
   plans_free : (F : Formula) (o : Option Taken) → EachPlan IsFreePlan (plans_by x F o)
   plans_free F None =
-      each_planned IsFreePlan PointLacks (plan_at F) (test_points x F) (plan_free F) (tt, each_of_first PointLacks [] (ends_of_atoms x (atoms_of F)) (lacking_atoms (atoms_of F)))
-  plans_free F (Some e) = root_free (is_constant (slope_in x e.poly)) (slope_in x e.poly) (base_in x e.poly) (others_of e.others) (lack_part x 1 e.poly) (lack_part x 0 e.poly)
+      each_planned IsFreePlan PointLacks (plan_at F) (test_points x F) (plan_free F)
+      (tt, each_of_first PointLacks [] (ends_of_atoms x (atoms_of F)) (lacking_atoms (atoms_of F)))
+  plans_free F (Some e) = root_free (is_constant (slope_in x e.poly)) (slope_in x e.poly) (base_in x e.poly) (others_of e.others) (lack_part x 1 e.poly)
+      (lack_part x 0 e.poly)
 
   written_free : (F : Formula) (k : ℕ) (plan : Plan) (G : Formula) → slice_get (branch_plans x F) k ≡ Some plan → IsFreePlan plan → IsWrittenBy x plan G
       → (IsLevelBranch x F k → ⊥) → IsFree x G

@@ -54,10 +54,12 @@ module _ (x : ℕ) where
 
   pub lack_cross : (a b c d : List Monomial) → TermsLack a → TermsLack b → TermsLack c → TermsLack d → TermsLack (cross_of a b c d)
   lack_cross a b c d h k l m =
-      lack_append (product_of a b) (scaled (neg_ℤ (pos 1)) (product_of c d)) (lack_product a b h k) (lack_scaled (neg_ℤ (pos 1)) (product_of c d) (lack_product c d l m))
+      lack_append (product_of a b) (scaled (neg_ℤ (pos 1)) (product_of c d)) (lack_product a b h k)
+      (lack_scaled (neg_ℤ (pos 1)) (product_of c d) (lack_product c d l m))
 
   part_step : (k : ℕ) (t : Monomial) (ts : List Monomial) (b : Bool) → TermsLack (part_of x k ts)
-      → TermsLack (map (λ t. monomial t.coefficient (set t.powers x 0)) (cond b (t ∷ filter (λ t. exponent_of x t == k) ts) (filter (λ t. exponent_of x t == k) ts)))
+      → TermsLack (map (λ t. monomial t.coefficient (set t.powers x 0))
+      (cond b (t ∷ filter (λ t. exponent_of x t == k) ts) (filter (λ t. exponent_of x t == k) ts)))
   part_step k t ts true h = (set_zero t.powers x, h)
   part_step k t ts false h = h
 
@@ -76,7 +78,8 @@ module _ (x : ℕ) where
   no_coefficient : (ts : List Monomial) (e : List ℕ) → TermsLack ts → (get_or e x 0 ≡ 0 → ⊥) → coefficient_at ts e ≡ pos 0
   no_coefficient [] e h k = refl
   no_coefficient (t ∷ ts) e h k =
-      let nothing : (if bytes_eq t.powers e then t.coefficient else pos 0) ≡ pos 0 = ap (λ (b : Bool). if b then t.coefficient else pos 0) (term_apart t e h.0 k) in
+      let nothing : (if bytes_eq t.powers e then t.coefficient else pos 0) ≡ pos 0 = ap (λ (b : Bool). if b then t.coefficient else pos 0)
+      (term_apart t e h.0 k) in
       let rest = no_coefficient ts e h.1 k in
       omega (arith, ints, nothing, rest)
 

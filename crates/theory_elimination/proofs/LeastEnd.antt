@@ -124,7 +124,8 @@ module _ (x : ℕ) (p : Values) (v : Fraction) where
   all_closer e d [] h k = tt
   all_closer e d (a ∷ rows) h k = (closer e d a.0 a.1 h k.0, all_closer e d rows h k.1)
 
-  lesser : (a : Row) (rows : List Row) → EndOf (λ e. StaysUpTo e a.0 a.1) (ends_of_atom x a.0 a.1) → EndOf (λ e. EachRow (StaysUpTo e) rows) (ends_of_atoms x rows)
+  lesser : (a : Row) (rows : List Row) → EndOf (λ e. StaysUpTo e a.0 a.1) (ends_of_atom x a.0 a.1) →
+      EndOf (λ e. EachRow (StaysUpTo e) rows) (ends_of_atoms x rows)
       → EndOf (λ e. EachRow (StaysUpTo e) (a ∷ rows)) (ends_of_atoms x (a ∷ rows))
   lesser a rows first rest =
       elim (total_order first.cut rest.cut) [

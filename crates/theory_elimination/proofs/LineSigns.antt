@@ -95,11 +95,14 @@ step_sign x v P p D h (inr one) =
     let A = polynomial_at (slope_in x P) p in
     let B = polynomial_at (base_in x P) p in
     let d : ℤ = pos (den v ^ 1) in
-    let value : Equals (polynomial_at (sum_of (scaled v.num (slope_in x P)) (scaled d (base_in x P))) p) (fraction_sum (fraction_product (whole v.num) A) (fraction_product (whole d) B)) =
-    along (value_of_sum (scaled v.num (slope_in x P)) (scaled d (base_in x P)) p) (sums (value_of_scaled v.num (slope_in x P) p) (value_of_scaled d (base_in x P) p)) in
+    let value : Equals (polynomial_at (sum_of (scaled v.num (slope_in x P)) (scaled d (base_in x P))) p)
+    (fraction_sum (fraction_product (whole v.num) A) (fraction_product (whole d) B)) =
+    along (value_of_sum (scaled v.num (slope_in x P)) (scaled d (base_in x P)) p)
+    (sums (value_of_scaled v.num (slope_in x P) p) (value_of_scaled d (base_in x P) p)) in
     ap (λ (k : ℕ). sign_at (restriction_step x v P k) p) one
     ∙ ap (λ (k : ℕ). sign_at (sum_of (scaled v.num (part_of x k P)) (scaled d (part_of x (k - 1) P))) p) degree
-    ∙ same_signs (polynomial_at (sum_of (scaled v.num (slope_in x P)) (scaled d (base_in x P))) p) (fraction_sum (fraction_product (whole v.num) A) (fraction_product (whole d) B)) value
+    ∙ same_signs (polynomial_at (sum_of (scaled v.num (slope_in x P)) (scaled d (base_in x P))) p)
+    (fraction_sum (fraction_product (whole v.num) A) (fraction_product (whole d) B)) value
     ∙ weighted v.num d A B
     ∙ ap (λ (k : ℕ). sign_of_whole (A.num *ℤ pos (den B) *ℤ v.num +ℤ B.num *ℤ pos (den A) *ℤ pos k)) (one_power (den v))
 

@@ -109,7 +109,8 @@ module _ (p : Values) where
   seen_counts all F [] e = absurd cc
   seen_counts all F (G ∷ seen) e =
       elim (is_same F G) as (λ b. is_same F G ≡ b → b || list_any (is_same F) seen ≡ true →
-      combined all (truth_at F p) (combined all (truth_at G p) (total all (formula_truths seen))) ≡ combined all (truth_at G p) (total all (formula_truths seen))) [
+      combined all (truth_at F p) (combined all (truth_at G p) (total all (formula_truths seen))) ≡ combined all (truth_at G p)
+      (total all (formula_truths seen))) [
         | true ↦ λ same e'.
             ap (λ (b : Bool). combined all b (combined all (truth_at G p) (total all (formula_truths seen)))) (same_truth p F G same)
             ∙ twice all (truth_at G p) (total all (formula_truths seen))
@@ -125,7 +126,8 @@ module _ (p : Values) where
       let before = total all (formula_truths seen) in
       let behind = total all (formula_truths Fs) in
       elim (list_any (is_same F) seen) as (λ b. list_any (is_same F) seen ≡ b →
-      combined all before (total all (formula_truths (if b then first_ones seen Fs else F ∷ first_ones (F ∷ seen) Fs))) ≡ combined all before (combined all t behind)) [
+      combined all before (total all (formula_truths (if b then first_ones seen Fs else F ∷ first_ones (F ∷ seen) Fs))) ≡ combined all before
+      (combined all t behind)) [
         | true ↦ λ e.
             first_ones_truth all Fs seen ∙ ap (λ (b : Bool). combined all b behind) (sym (seen_counts all F seen e)) ∙ combined_assoc all t before behind
             ∙ swapped all t before behind

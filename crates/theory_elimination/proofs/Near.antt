@@ -167,8 +167,11 @@ module _ {A : Type 0} (line : A → Line) where
         | inr down ↦ record {
           low = n.low;
           approaches = n.approaches;
-          signs = λ w h k.
-              (n.signs w h k, m.signs w (up_plus (way m.low n.low) (way n.low w) (way m.low w) (ways_add m.low n.low w) (plus_is_up (way m.low n.low) down) h) k);
+          signs = λ w h k. (
+            n.signs w h k,
+            m.signs w (up_plus (way m.low n.low) (way n.low w) (way m.low w) (ways_add m.low n.low w)
+                (plus_is_up (way m.low n.low) down) h) k,
+          );
         }
       ]
 

@@ -108,7 +108,8 @@ power_without x v [] p = refl
 power_without zero v (n ∷ e) p = refl
 power_without (suc x) v (n ∷ e) p = ap (fraction_product (power_of (first_of p) n)) (power_without x v e (rest_of p))
 
-pub part_value : (x k : ℕ) (v : Fraction) (ts : List Monomial) (p : Values) → polynomial_at (part_of x k ts) (with_value x v p) ≡ polynomial_at (part_of x k ts) p
+pub part_value : (x k : ℕ) (v : Fraction) (ts : List Monomial) (p : Values) →
+    polynomial_at (part_of x k ts) (with_value x v p) ≡ polynomial_at (part_of x k ts) p
 part_value x k v [] p = refl
 part_value x k v (t ∷ ts) p =
     elim (cases_Bool (exponent_of x t == k)) [

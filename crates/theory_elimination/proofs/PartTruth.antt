@@ -96,7 +96,8 @@ module _ {X : Type 0} (IsOther : X → Bool → Type 0) (p : Values) where
 
   -- a condition on the polynomial of the first member
   keeps_met : (all : Bool) (Q : List Monomial) (T S : Signs) (ms : List (Part X)) (us : List Bool) → AreWorth ms us
-      → Keeps all (option_map (λ R. condition Q R ∷ ms) (put_together all T S)) (combined all (combined all (has T (sign_at Q p)) (total all us)) (has S (sign_at Q p)))
+      → Keeps all (option_map (λ R. condition Q R ∷ ms) (put_together all T S))
+      (combined all (combined all (has T (sign_at Q p)) (total all us)) (has S (sign_at Q p)))
   keeps_met all Q T S ms us w =
       let t = has T (sign_at Q p) in
       let s = has S (sign_at Q p) in
@@ -110,21 +111,30 @@ module _ {X : Type 0} (IsOther : X → Bool → Type 0) (p : Values) where
 
   pub keeps_condition : (all : Bool) (P : List Monomial) (S : Signs) (ms : List (Part X)) (us : List Bool) → AreWorth ms us
       → Keeps all (with_condition all P S ms) (combined all (total all us) (has S (sign_at P p)))
-  keeps_condition all P S [] [] w = (has S (sign_at P p) ∷ [], (refl, tt), combined_end all (has S (sign_at P p)) ∙ sym (combined_start all (has S (sign_at P p))))
+  keeps_condition all P S [] [] w = (
+    has S (sign_at P p) ∷ [],
+    (refl, tt),
+    combined_end all (has S (sign_at P p))
+        ∙ sym (combined_start all (has S (sign_at P p))),
+  )
   keeps_condition all P S [] (u ∷ us) w = absurd w
   keeps_condition all P S (m ∷ ms) [] w = absurd w
   keeps_condition all P S (condition Q T ∷ ms) (u ∷ us) w =
-      let further : Keeps all (option_map (λ ns. condition Q T ∷ ns) (with_condition all P S ms)) (combined all (combined all u (total all us)) (has S (sign_at P p))) =
+      let further : Keeps all (option_map (λ ns. condition Q T ∷ ns) (with_condition all P S ms))
+      (combined all (combined all u (total all us)) (has S (sign_at P p))) =
       keeps_same all (option_map (λ ns. condition Q T ∷ ns) (with_condition all P S ms)) (combined all u (combined all (total all us) (has S (sign_at P p))))
       (combined all (combined all u (total all us)) (has S (sign_at P p)))
       (sym (combined_assoc all u (total all us) (has S (sign_at P p))))
-      (keeps_front all (condition Q T) u (with_condition all P S ms) (combined all (total all us) (has S (sign_at P p))) w.0 (keeps_condition all P S ms us w.1)) in
+      (keeps_front all (condition Q T) u (with_condition all P S ms) (combined all (total all us) (has S (sign_at P p))) w.0
+      (keeps_condition all P S ms us w.1)) in
       elim (is_same_poly Q P) as (λ b. is_same_poly Q P ≡ b → Keeps all (if b then option_map (λ R. condition Q R ∷ ms) (put_together all T S)
       else option_map (λ ns. condition Q T ∷ ns) (with_condition all P S ms)) (combined all (combined all u (total all us)) (has S (sign_at P p)))) [
         | true ↦ λ same.
-            keeps_same all (option_map (λ R. condition Q R ∷ ms) (put_together all T S)) (combined all (combined all (has T (sign_at Q p)) (total all us)) (has S (sign_at Q p)))
+            keeps_same all (option_map (λ R. condition Q R ∷ ms) (put_together all T S))
+            (combined all (combined all (has T (sign_at Q p)) (total all us)) (has S (sign_at Q p)))
             (combined all (combined all u (total all us)) (has S (sign_at P p)))
-            (ap₂ (λ (b c : Bool). combined all (combined all b (total all us)) c) (sym w.0) (ap (λ (R : List Monomial). has S (sign_at R p)) (same_poly Q P same)))
+            (ap₂ (λ (b c : Bool). combined all (combined all b (total all us)) c) (sym w.0)
+            (ap (λ (R : List Monomial). has S (sign_at R p)) (same_poly Q P same)))
             (keeps_met all Q T S ms us w.1)
         | false ↦ λ differ. further
       ] refl
@@ -159,14 +169,16 @@ module _ {X : Type 0} (IsOther : X → Bool → Type 0) (p : Values) where
   keeps_gathered all done (m ∷ ms) us [] w h = absurd h
   keeps_gathered all done (condition P S ∷ ms) us (v ∷ vs) w h =
       let found = keeps_condition all P S done us w in
-      let value : combined all (combined all (total all us) (has S (sign_at P p))) (total all vs) ≡ combined all (total all us) (combined all v (total all vs)) =
+      let value : combined all (combined all (total all us) (has S (sign_at P p))) (total all vs) ≡ combined all (total all us)
+      (combined all v (total all vs)) =
       combined_assoc all (total all us) (has S (sign_at P p)) (total all vs)
       ∙ ap (λ (b : Bool). combined all (total all us) (combined all b (total all vs))) (sym h.0) in
       elim (with_condition all P S done) as (λ o. Keeps all o (combined all (total all us) (has S (sign_at P p)))
       → Keeps all (option_and_then (λ ns. gathered_behind all ns ms) o) (combined all (total all us) (combined all v (total all vs)))) [
         | None ↦ λ k. sym value ∙ ap (λ (b : Bool). combined all b (total all vs)) k ∙ combined_decided all (total all vs)
         | Some ns ↦ λ k.
-            keeps_same all (gathered_behind all ns ms) (combined all (total all k.0) (total all vs)) (combined all (total all us) (combined all v (total all vs)))
+            keeps_same all (gathered_behind all ns ms) (combined all (total all k.0) (total all vs))
+            (combined all (total all us) (combined all v (total all vs)))
             (ap (λ (b : Bool). combined all b (total all vs)) k.2 ∙ value) (keeps_gathered all ns ms k.0 vs k.1 h.1)
       ] found
   keeps_gathered all done (told b ∷ ms) us (v ∷ vs) w h =
@@ -207,7 +219,8 @@ module _ {X : Type 0} (IsOther : X → Bool → Type 0) (p : Values) where
   pub keeps_all_gathered : (all : Bool) (ms : List (Part X)) (us : List Bool) → AreWorth ms us → Keeps all (gathered all ms) (total all us)
   keeps_all_gathered all ms us w =
       keeps_then all (gathered_behind all [] ms) (undecided all) (total all us)
-      (keeps_same all (gathered_behind all [] ms) (combined all all (total all us)) (total all us) (combined_start all (total all us)) (keeps_gathered all [] ms [] us tt w))
+      (keeps_same all (gathered_behind all [] ms) (combined all all (total all us)) (total all us) (combined_start all (total all us))
+      (keeps_gathered all [] ms [] us tt w))
       (λ ns vs h. keeps_undecided all ns vs h)
 
   -- what true facts say of members
@@ -236,7 +249,8 @@ module _ {X : Type 0} (IsOther : X → Bool → Type 0) (p : Values) where
   pub facts_with_conditions : (ms : List (Part X)) (K : Facts) → AreTrueAt p K → conditions_hold ms ≡ true → AreTrueAt p (with_conditions ms K)
   facts_with_conditions [] K h e = h
   facts_with_conditions (condition P S ∷ ms) K h e =
-      facts_with_conditions ms (with_fact P S K) (one_more_fact p P S K h (first_part (has S (sign_at P p)) (conditions_hold ms) e)) (second_part (has S (sign_at P p)) (conditions_hold ms) e)
+      facts_with_conditions ms (with_fact P S K) (one_more_fact p P S K h (first_part (has S (sign_at P p)) (conditions_hold ms) e))
+      (second_part (has S (sign_at P p)) (conditions_hold ms) e)
   facts_with_conditions (told b ∷ ms) K h e = facts_with_conditions ms K h e
   facts_with_conditions (other x ∷ ms) K h e = facts_with_conditions ms K h e
 

@@ -75,7 +75,8 @@ times_plus Plus = refl
 
 -- a positive factor leaves the sign
 pub sign_of_scaled : (a : ℤ) (n : ℕ) → sign_of_whole (a *ℤ pos (n + 1)) ≡ sign_of_whole a
-sign_of_scaled a n = sign_of_product a (pos (n + 1)) ∙ ap (times (sign_of_whole a)) (positive (pos (n + 1)) (omega (arith, ints))) ∙ times_plus (sign_of_whole a)
+sign_of_scaled a n = sign_of_product a (pos (n + 1)) ∙ ap (times (sign_of_whole a)) (positive (pos (n + 1)) (omega (arith, ints)))
+    ∙ times_plus (sign_of_whole a)
 
 pub sign_of_opposite : (a : ℤ) → sign_of_whole (neg_ℤ a) ≡ opposite_sign (sign_of_whole a)
 sign_of_opposite (pos zero) = refl

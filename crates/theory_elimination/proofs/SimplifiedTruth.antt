@@ -23,7 +23,8 @@ module _ (p : Values) where
   abbrev AreWaiting : List Waiting → List Bool → Type 0
   AreWaiting = part.AreWorth WaitsFor p
 
-  truths_append : (all : Bool) (ms ns : List (Part Formula)) → total all (truths p (ms ++ ns)) ≡ combined all (total all (truths p ms)) (total all (truths p ns))
+  truths_append : (all : Bool) (ms ns : List (Part Formula)) →
+      total all (truths p (ms ++ ns)) ≡ combined all (total all (truths p ms)) (total all (truths p ns))
   truths_append all ms ns = ap (total all) (map-append (truth_of_part p) ms ns) ∙ total_append all (truths p ms) (truths p ns)
 
   -- members that are simplified under true facts keep their truth

@@ -97,8 +97,10 @@ infinity_truth : (p : Values) (slope base : List Monomial) (S : Signs) (F : Form
     → IsAtInfinity slope base S F → truth_at F p ≡ has S (sign_at_cut (line_at p slope base) top)
 infinity_truth p slope base S F h k w =
     ap (λ (G : Formula). truth_at G p) w.written
-    ∙ either_truth w.by_slope w.flat w.by_base p (has S (sign_at slope p) && not (is_zero (sign_at slope p))) (is_zero (sign_at slope p)) (has S (sign_at base p))
-    (nonzero_truth slope S w.by_slope p h w.slope_is) (condition_truth slope set.Zero w.flat p h w.flat_is ∙ zero_has (sign_at slope p)) (condition_truth base S w.by_base p k w.base_is)
+    ∙ either_truth w.by_slope w.flat w.by_base p (has S (sign_at slope p) && not (is_zero (sign_at slope p))) (is_zero (sign_at slope p))
+    (has S (sign_at base p))
+    (nonzero_truth slope S w.by_slope p h w.slope_is) (condition_truth slope set.Zero w.flat p h w.flat_is ∙ zero_has (sign_at slope p))
+    (condition_truth base S w.by_base p k w.base_is)
     ∙ by_leading S (sign_at slope p) (sign_at base p)
     ∙ ap₂ (λ (s t : Sign). has S (leading s t)) (sym (slope_sign_is p slope base)) (sym (base_sign_is p slope base))
 
@@ -180,7 +182,8 @@ before_truth : (p : Values) (a b : List Monomial) (s : Sign) (slope base : List 
     → (s ≡ Zero → ⊥) → IsJustBefore a b s slope base S F → truth_at F p ≡ has S (sign_at_cut (line_at p slope base) (just_before (root_of (line_at p a b))))
 before_truth p a b s slope base S F k e h w =
     ap (λ (G : Formula). truth_at G p) w.written
-    ∙ either_truth w.there w.zero w.falling p (has (along_slope s S) (sign_at w.q p) && not (is_zero (sign_at w.q p))) (is_zero (sign_at w.q p)) (has (mirror S) (sign_at slope p))
+    ∙ either_truth w.there w.zero w.falling p (has (along_slope s S) (sign_at w.q p) && not (is_zero (sign_at w.q p))) (is_zero (sign_at w.q p))
+    (has (mirror S) (sign_at slope p))
     (nonzero_truth w.q (along_slope s S) w.there p w.cross.2 w.there_is) (condition_truth w.q set.Zero w.zero p w.cross.2 w.zero_is ∙ zero_has (sign_at w.q p))
     (condition_truth slope (mirror S) w.falling p k w.falling_is)
     ∙ by_falling s S (sign_at w.q p) (sign_at slope p) h

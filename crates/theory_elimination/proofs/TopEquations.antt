@@ -136,7 +136,8 @@ taken_here Q x F P passed Fs h = record {
       (subst (EachAtom Q) h.is parts.1, in_others Q (passed ++ Fs) (in_append Q passed Fs parts.0 parts.2));
 }
 
-taken : (Q : List Monomial → Signs → Type 0) (x : ℕ) (is_one : Formula → Option (List Monomial)) → ((F : Formula) (P : List Monomial) → is_one F ≡ Some P → IsEquation x F P)
+taken : (Q : List Monomial → Signs → Type 0) (x : ℕ) (is_one : Formula → Option (List Monomial)) →
+    ((F : Formula) (P : List Monomial) → is_one F ≡ Some P → IsEquation x F P)
     → (passed Fs : List Formula) (e : Taken) → taken_behind is_one passed Fs ≡ Some e → Splits Q x (passed ++ Fs) e
 taken Q x is_one sound passed [] e h = absurd cc
 taken Q x is_one sound passed (F ∷ Fs) e h =

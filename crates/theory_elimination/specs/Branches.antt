@@ -32,11 +32,12 @@ plan_at F infinity = plain infinity F
 plan_at F (root a b s) = guarded (root a b s) a s F
 plan_at F (before a b s) = guarded (before a b s) a s F
 
--- the polynomial of an equation in which the symbol occurs
+-- the polynomial where the test is met, else none
 abbrev pub equation_if : Bool → List Monomial → Option (List Monomial)
 equation_if true P = Some P
 equation_if false P = None
 
+-- the polynomial of a formula that is an equation in which the symbol occurs
 abbrev pub equation_of : ℕ → Formula → Option (List Monomial)
 equation_of x (atom P set.Zero) = equation_if (holds_symbol x P) P
 equation_of x _ = None
@@ -46,6 +47,7 @@ abbrev pub if_plain : ℕ → Option (List Monomial) → Option (List Monomial)
 if_plain x None = None
 if_plain x (Some P) = equation_if (is_constant (slope_in x P)) P
 
+-- the polynomial of such an equation whose slope has no symbol
 abbrev pub plain_equation_of : ℕ → Formula → Option (List Monomial)
 plain_equation_of x F = if_plain x (equation_of x F)
 
@@ -54,6 +56,7 @@ pub record Taken : Type 0 where
   pub poly : List Monomial
   pub others : List Formula
 
+-- this member is taken where it is one, and else what comes next
 abbrev pub taken_at : Option (List Monomial) → List Formula → Option Taken → Option Taken
 taken_at None others next = next
 taken_at (Some P) others next = Some (record { poly = P; others = others })
@@ -63,6 +66,7 @@ abbrev pub taken_behind : (Formula → Option (List Monomial)) → List Formula 
 taken_behind is_one passed [] = None
 taken_behind is_one passed (F ∷ Fs) = taken_at (is_one F) (passed ++ Fs) (taken_behind is_one (passed ++ F ∷ []) Fs)
 
+-- the first where there is one, else the second
 abbrev pub or_else : Option Taken → Option Taken → Option Taken
 or_else None second = second
 or_else (Some found) second = Some found
@@ -87,6 +91,7 @@ abbrev pub root_plans : Bool → List Monomial → List Monomial → Formula →
 root_plans true a b G = plain (root a b (constant_sign a)) G ∷ []
 root_plans false a b G = guarded (root a b Plus) a Plus G ∷ guarded (root a b Minus) a Minus G ∷ level a b G ∷ []
 
+-- the plans by the equation that is taken, or by the test points where there is none
 abbrev pub plans_by : ℕ → Formula → Option Taken → List Plan
 plans_by x F None = map (plan_at F) (test_points x F)
 plans_by x F (Some e) = root_plans (is_constant (slope_in x e.poly)) (slope_in x e.poly) (base_in x e.poly) (others_of e.others)

@@ -14,6 +14,7 @@ pub record Fact : Type 0 where
   pub poly : List Monomial
   pub signs : Signs
 
+-- what is known, the first fact first
 abbrev pub Facts : Type 0
 Facts = List Fact
 

@@ -59,6 +59,7 @@ abbrev pub as_judged : {X : Type 0} → List Monomial → Signs → Option Bool 
 as_judged P S None = condition P S
 as_judged P S (Some b) = told b
 
+-- a member as the facts say
 abbrev pub by_facts : {X : Type 0} → Facts → Part X → Part X
 by_facts K (told b) = told b
 by_facts K (condition P S) = as_judged P S (judged K P S)
@@ -71,6 +72,7 @@ with_conditions (condition P S ∷ ps) K = with_conditions ps (with_fact P S K)
 with_conditions (told b ∷ ps) K = with_conditions ps K
 with_conditions (other x ∷ ps) K = with_conditions ps K
 
+-- the facts for the members of a list: a disjunction adds none
 abbrev pub facts_within : {X : Type 0} → Bool → List (Part X) → Facts → Facts
 facts_within true ps K = with_conditions ps K
 facts_within false ps K = K
@@ -96,6 +98,7 @@ members_under all K (told b ∷ ps) = told b ∷ members_under all K ps
 members_under all K (condition P S ∷ ps) = condition P S ∷ members_under all K ps
 members_under all K (other simplify ∷ ps) = spliced all (simplify K) ++ members_under all K ps
 
+-- a member as a formula
 abbrev pub as_formula : Part Formula → Formula
 as_formula (told b) = decided b
 as_formula (condition P S) = atom P S
@@ -106,16 +109,18 @@ abbrev pub first_ones : List Formula → List Formula → List Formula
 first_ones seen [] = []
 first_ones seen (F ∷ Fs) = if list_any (is_same F) seen then first_ones seen Fs else F ∷ first_ones (F ∷ seen) Fs
 
--- all or some of the formulas: one stands for itself, and where there is none it is decided
+-- all or some of the formulas
 abbrev pub list_of : Bool → Formulas → Formula
 list_of true Fs = conjunction Fs
 list_of false Fs = disjunction Fs
 
+-- the formulas as one: one stands for itself, and where there is none it is decided
 abbrev pub bundled : Bool → List Formula → Formula
 bundled all [] = decided all
 bundled all (F ∷ []) = F
 bundled all (F ∷ G ∷ Fs) = list_of all (formulas_from (F ∷ G ∷ Fs))
 
+-- the formula of the members, each once; where there are none to keep the whole is decided
 abbrev pub finished : Bool → Option (List (Part Formula)) → Formula
 finished all None = decided (not all)
 finished all (Some ps) = bundled all (first_ones [] (map as_formula ps))

@@ -11,9 +11,11 @@ use Rattle.theory_method.specs.Formula.{Formula, Formulas, always, never, atom, 
 use Rattle.theory_method.specs.SignCondition.{IsAtomOf}
 use Rattle.theory_elimination.specs.TestPoint.{TestPoint, infinity, root, before, slope_in, base_in, holds_symbol}
 
+-- both formulas are true
 abbrev pub both : Formula → Formula → Formula
 both F G = conjunction (more F (more G none))
 
+-- at least one of two formulas is true
 abbrev pub either : Formula → Formula → Formula
 either F G = disjunction (more F (more G none))
 
@@ -70,6 +72,7 @@ abbrev pub IsAtomWhere : Bool → ℕ → TestPoint → List Monomial → Signs 
 IsAtomWhere true x point P S F = IsLineAt point (slope_in x P) (base_in x P) S F
 IsAtomWhere false x point P S F = F ≡ atom P S
 
+-- an atom at the test point
 abbrev pub IsAtomAt : ℕ → TestPoint → List Monomial → Signs → Formula → Type 0
 IsAtomAt x point P S F = IsAtomWhere (holds_symbol x P) x point P S F
 

@@ -13,10 +13,11 @@ use Rattle.theory_method.specs.Formula.{Formula}
 use Rattle.theory_method.specs.FormulaAtoms.{atoms_of}
 use Rattle.theory_elimination.specs.SameFormula.{is_same_poly}
 
--- the slope and the base of a polynomial that is linear in the symbol
+-- the slope of a polynomial that is linear in the symbol
 abbrev pub slope_in : ℕ → List Monomial → List Monomial
 slope_in x P = part_of x 1 P
 
+-- the base of a polynomial that is linear in the symbol: its part without the symbol
 abbrev pub base_in : ℕ → List Monomial → List Monomial
 base_in x P = part_of x 0 P
 
@@ -42,14 +43,16 @@ end_of set.NonZero Minus a b = Some (before a b Minus)
 end_of set.NotNeg Minus a b = Some (root a b Minus)
 end_of S s a b = None
 
+-- a test point that may not be there, as a list
 abbrev pub listed : Option TestPoint → List TestPoint
 listed None = []
 listed (Some point) = point ∷ []
 
--- no symbol occurs, and the sign of such a polynomial
+-- no symbol occurs
 abbrev pub is_constant : List Monomial → Bool
 is_constant P = greatest_exponent_of P == 0
 
+-- the sign of a polynomial in which no symbol occurs
 abbrev pub constant_sign : List Monomial → Sign
 constant_sign P = sign_of_whole (coefficient_at P no_powers)
 
@@ -63,17 +66,19 @@ abbrev pub ends_of_atom : ℕ → List Monomial → Signs → List TestPoint
 ends_of_atom x P S =
     if holds_symbol x P then ends_by_slope (is_constant (slope_in x P)) S (slope_in x P) (base_in x P) else []
 
+-- the ends of conditions in their order
 abbrev pub ends_of_atoms : ℕ → List (List Monomial × Signs) → List TestPoint
 ends_of_atoms x [] = []
 ends_of_atoms x (a ∷ more) = ends_of_atom x a.0 a.1 ++ ends_of_atoms x more
 
--- the same sign, and the same test point
+-- the same sign
 abbrev pub is_same_sign : Sign → Sign → Bool
 is_same_sign Minus Minus = true
 is_same_sign Zero Zero = true
 is_same_sign Plus Plus = true
 is_same_sign _ _ = false
 
+-- the same test point: the same kind, with the same slope, base and sign
 abbrev pub is_same_point : TestPoint → TestPoint → Bool
 is_same_point infinity infinity = true
 is_same_point (root a b s) (root c d t) = is_same_poly a c && is_same_poly b d && is_same_sign s t

@@ -4,15 +4,19 @@ use Rattle.theory_method.specs.declared.signs.Signs.TheVariants.{Neg, Zero, Pos,
 use Rattle.theory_method.specs.Terms.{Monomial, symbol_of}
 use Rattle.theory_method.specs.Formula.{Formula, always, atom, conjunction, disjunction, none, more}
 
+-- the symbol x
 abbrev pub x : List Monomial
 x = symbol_of 0
 
+-- the symbol y
 abbrev pub y : List Monomial
 y = symbol_of 1
 
+-- both formulas are true
 abbrev pub both : Formula → Formula → Formula
 both F G = conjunction (more F (more G none))
 
+-- at least one of two formulas is true
 abbrev pub either : Formula → Formula → Formula
 either F G = disjunction (more F (more G none))
 
@@ -24,6 +28,7 @@ met_members = conjunction (more (atom x NotNeg) (more (either (atom x Neg) (atom
 abbrev pub spliced_member : Formula
 spliced_member = both (disjunction (more (atom x Neg) none)) (either (atom x NotPos) (atom y Zero))
 
+-- its simplified form, in which the list of one is its member
 abbrev pub spliced_once : Formula
 spliced_once = both (atom x Neg) (either (atom x NotPos) (atom y Zero))
 

@@ -6,7 +6,7 @@ ghost use Rattle.theory_elimination.specs.Facts.{Facts, AreTrueAt};
 ghost use Rattle.theory_elimination.specs.Simplified.{simplified, simplified_under};
 ghost use Rattle.theory_elimination.specs.WorkedForms.{x, y, both, either, met_members, spliced_member, spliced_once, joined_members, repeated_members};
 
-/// At every point at which the facts are true, the simplified form is true exactly where the formula is.
+/// Wherever the facts are true, the simplified form is true exactly where the formula is.
 pub fn simplification_keeps_truth()
     ensures { (K : Facts) (F : Formula) (p : Values) → AreTrueAt p K →
         truth_at (simplified_under K F) p ≡ truth_at F p }

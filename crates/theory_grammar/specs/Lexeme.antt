@@ -22,6 +22,7 @@ pub data Lexeme : Type 0 where
   sign : Mark → Lexeme
   comparison : Rel → Lexeme
 
+-- the bytes of a lexeme
 abbrev pub spelling : Lexeme → List ℕ
 spelling (word w) = w
 spelling (pair u v) = u ++ 46 ∷ v
@@ -29,6 +30,7 @@ spelling (digits ds) = ds
 spelling (sign m) = mark_byte m ∷ []
 spelling (comparison rel) = relation_bytes rel
 
+-- its words are words, and its digits are digits, at least one
 abbrev pub IsLexeme : Lexeme → Type 0
 IsLexeme (word w) = IsTrue (is_word w)
 IsLexeme (pair u v) = IsTrue (is_word u) × IsTrue (is_word v)
@@ -56,6 +58,7 @@ abbrev pub keyword_among : List ℕ → List Keyword → Option Keyword
 keyword_among w [] = None
 keyword_among w (k ∷ ks) = if bytes_eq w (keyword_bytes k) then Some k else keyword_among w ks
 
+-- the reserved words, but `d`
 abbrev pub all_keywords : List Keyword
 all_keywords =
     reserved.Model ∷ reserved.Var ∷ reserved.Param ∷ reserved.Fun ∷ reserved.Of ∷ reserved.Eq ∷ reserved.Assume ∷ reserved.Claim ∷
@@ -84,6 +87,7 @@ number_of ds = fold (λ n d. n * 10 + (d - 48)) 0 ds
 abbrev pub digits_meaning : List ℕ → Meaning
 digits_meaning ds = if nat_lt bound (number_of ds) then fault LiteralWide else token (number (number_of ds))
 
+-- what a lexeme is read as, by its kind
 abbrev pub meaning : Lexeme → Meaning
 meaning (word w) = word_meaning w
 meaning (pair u v) = pair_meaning u v

@@ -53,4 +53,5 @@ NeverBoth {T = T} Spells = (tokens : List Token) (x : T) (kind : LineFaultKind) 
 -- and they have at most one first fault
 abbrev pub HasOneFault : {T : Type 0} → Grammar T → Type 0
 HasOneFault Spells =
-    (tokens : List Token) (kind other : LineFaultKind) (place elsewhere : ℕ) → FirstFault Spells tokens kind place → FirstFault Spells tokens other elsewhere → (kind ≡ other) × (place ≡ elsewhere)
+    (tokens : List Token) (kind other : LineFaultKind) (place elsewhere : ℕ) → FirstFault Spells tokens kind place →
+    FirstFault Spells tokens other elsewhere → (kind ≡ other) × (place ≡ elsewhere)

@@ -26,6 +26,7 @@ keyword_bytes reserved.Iff = codes "iff"
 keyword_bytes reserved.True = codes "true"
 keyword_bytes reserved.False = codes "false"
 
+-- the byte of a sign
 abbrev pub mark_byte : Mark → ℕ
 mark_byte Open = 40
 mark_byte Close = 41
@@ -38,6 +39,7 @@ mark_byte Over = 47
 mark_byte Power = 94
 mark_byte Colon = 58
 
+-- the bytes of a comparison
 abbrev pub relation_bytes : Rel → List ℕ
 relation_bytes Eq = codes "="
 relation_bytes Ne = codes "!="

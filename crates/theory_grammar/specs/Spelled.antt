@@ -30,6 +30,7 @@ unlimited = record { depth = false; exponent = false; below = false }
 abbrev pub has_room : Limits → ℕ → Bool
 has_room limits d = not limits.depth || nat_lt d 32
 
+-- the number may be an exponent: from 1 to 8 where that limit counts
 abbrev pub is_exponent : Limits → ℕ → Bool
 is_exponent limits k = not limits.exponent || (nat_le 1 k && nat_le k 8)
 
@@ -89,12 +90,13 @@ pub data IsExpr (limits : Limits) : Level → ℕ → List Token → Expr → Ty
   minus : {d : ℕ} {ts us : List Token} {x y : Expr} → IsExpr limits sum d ts x → IsExpr limits term d us y
       → IsExpr limits sum d (ts ++ mark sign.Minus ∷ us) (plain.difference x y)
 
--- a chain of `and` or `or`: one member stands for itself
+-- a chain of `and`: one member stands for itself
 abbrev pub conjunction_of : List Claim → Claim
 conjunction_of [] = plain.always
 conjunction_of (c ∷ []) = c
 conjunction_of (c ∷ b ∷ cs) = plain.conjunction (claims_from (c ∷ b ∷ cs))
 
+-- a chain of `or`: one member stands for itself
 abbrev pub disjunction_of : List Claim → Claim
 disjunction_of [] = plain.never
 disjunction_of (c ∷ []) = c

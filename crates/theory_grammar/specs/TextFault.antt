@@ -18,12 +18,14 @@ pub record Fault : Type 0 where
   pub line : ℕ
   pub column : ℕ
 
+-- the kind of a fault at a token or at the end of a line
 abbrev pub kind_of_token : LineFaultKind → TextKind
 kind_of_token line.Unexpected = kind.Unexpected
 kind_of_token line.ZeroBelow = kind.ZeroBelow
 kind_of_token line.Exponent = kind.Exponent
 kind_of_token line.Deep = kind.Deep
 
+-- the kind of a fault at bytes that are no token
 abbrev pub kind_of_bytes : Unreadable → TextKind
 kind_of_bytes unreadable.BadToken = kind.BadToken
 kind_of_bytes unreadable.LiteralWide = kind.LiteralWide
@@ -64,11 +66,12 @@ pub data LineFails {T : Type 0} (Spells : Grammar T) (bytes : List ℕ) : TextKi
   at_bytes : (ts : List Placed) (u : Unreadable) (column : ℕ) → length bytes ≤ 1024 → ReadsLine bytes ts (broken u column)
       → ((k : LineFaultKind) (place : ℕ) → FirstFault Spells (tokens_of ts) k place → length ts ≤ place) → LineFails Spells bytes (kind_of_bytes u) column
 
--- what stands between line feeds: a line feed at the very end opens no further line
+-- a byte that goes before the first line
 abbrev pub onto_first : ℕ → List (List ℕ) → List (List ℕ)
 onto_first b [] = (b ∷ []) ∷ []
 onto_first b (l ∷ ls) = (b ∷ l) ∷ ls
 
+-- what stands between line feeds: a line feed at the very end opens no further line
 abbrev pub cut_lines : List ℕ → List (List ℕ)
 cut_lines [] = []
 cut_lines (b ∷ bs) = if b == 10 then [] ∷ cut_lines bs else onto_first b (cut_lines bs)

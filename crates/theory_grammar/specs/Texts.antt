@@ -6,10 +6,11 @@ use Rattle.theory_grammar.specs.Spelled.{IsLine, IsOp}
 use Rattle.theory_grammar.specs.TextFault.{Fault, SpellsText, TextFails}
 use Rattle.theory_grammar.specs.OneLine.{SpellsLine, OneLineFails}
 
--- a line is kept with its number in the text, an edit without
+-- a line is kept with its number in the text
 abbrev pub with_number : ℕ → Line → Numbered
 with_number n line = record { at = n; line = line }
 
+-- an edit is kept without a number
 abbrev pub without_number : ℕ → Op → Op
 without_number n op = op
 

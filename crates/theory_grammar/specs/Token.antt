@@ -5,6 +5,7 @@ use Rattle.theory_meaning.specs.Point.{Name}
 use Rattle.theory_grammar.specs.declared.words.Keyword.{Keyword}
 use Rattle.theory_grammar.specs.declared.words.Mark.{Mark}
 
+-- a token of a line
 pub data Token : Type 0 where
   -- a reserved word but `d`
   keyword : Keyword → Token

@@ -1,7 +1,8 @@
-//! What a model text spells: tokens of a line, the grammar of lines, edits, the first fault, printed forms.
+//! What a model text spells: tokens of a line, the grammar of lines, edits, the first fault,
+//! printed forms.
 //!
-//! The definitions stand in `specs/`, in plain data. Nothing of the product's code is used or repeated
-//! here; the enums below have no fields, and the product shares them.
+//! The definitions stand in `specs/`, in plain data. Nothing of the product's code is used or
+//! repeated here; the enums below have no fields, and the product shares them.
 #![tactic(auto)]
 
 mod laws;

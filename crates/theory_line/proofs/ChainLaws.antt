@@ -54,8 +54,10 @@ kept_in_front old new c is =
 pub stop_first_conjunct : (d : ℕ) (ts : List source.Token) (fault : ParseFault) (r : Answer) → IsFault fault r → ParsesConjunct d ts (Err fault)
     → ParsesDisjunct d ts r
 stop_first_conjunct d ts fault r is h = λ other premises disjuncts g qs. passed_by claim_of claim_of
-    (reading (want_claim g (in_claim other premises disjuncts [] d) qs) (plain_tokens ts)) (reading (want_claim g (in_claim other premises disjuncts [] d) qs) (plain_tokens ts))
-    (λ c rest. reading (have_claim c g (in_claim other premises disjuncts [] d) qs) rest) (λ c rest. behind_disjunct c other premises disjuncts d g qs rest) ts ts fault r is refl (h g (in_claim other premises disjuncts [] d) qs refl)
+    (reading (want_claim g (in_claim other premises disjuncts [] d) qs) (plain_tokens ts))
+    (reading (want_claim g (in_claim other premises disjuncts [] d) qs) (plain_tokens ts))
+    (λ c rest. reading (have_claim c g (in_claim other premises disjuncts [] d) qs) rest) (λ c rest. behind_disjunct c other premises disjuncts d g qs rest)
+    ts ts fault r is refl (h g (in_claim other premises disjuncts [] d) qs refl)
 
 pub first_conjunct : (d : ℕ) (ts : List source.Token) (us : Bor (List source.Token)) (c : node.Claim) (new : List node.Claim)
     → ParsesConjunct d ts (Ok (c, us)) → All IsFit (plain_tokens us.now) → new ≡ [] ++ c ∷ [] → AreConjuncts d ts us.now (claims_of new)
@@ -70,9 +72,12 @@ first_conjunct d ts us c new h fit is = record {
 pub stop_next_conjunct : (d : ℕ) (ts us vs : List source.Token) (cs : List Claim) (fault : ParseFault) (r : Answer) → AreConjuncts d ts us cs
     → plain_tokens us ≡ keyword word.And ∷ plain_tokens vs → IsFault fault r → ParsesConjunct d vs (Err fault) → ParsesDisjunct d ts r
 stop_next_conjunct d ts us vs cs fault r are follows is h = λ other premises disjuncts g qs. passed_by claim_of claim_of
-    (reading (want_claim g (in_claim other premises disjuncts cs d) qs) (plain_tokens vs)) (reading (want_claim g (in_claim other premises disjuncts [] d) qs) (plain_tokens ts))
-    (λ c rest. reading (have_claim c g (in_claim other premises disjuncts cs d) qs) rest) (λ c rest. behind_disjunct c other premises disjuncts d g qs rest) vs ts fault r is
-    (are.reads other premises disjuncts g qs ∙ ap (behind_conjuncts cs other premises disjuncts d g qs) follows) (h g (in_claim other premises disjuncts cs d) qs refl)
+    (reading (want_claim g (in_claim other premises disjuncts cs d) qs) (plain_tokens vs))
+    (reading (want_claim g (in_claim other premises disjuncts [] d) qs) (plain_tokens ts))
+    (λ c rest. reading (have_claim c g (in_claim other premises disjuncts cs d) qs) rest)
+    (λ c rest. behind_disjunct c other premises disjuncts d g qs rest) vs ts fault r is
+    (are.reads other premises disjuncts g qs ∙ ap (behind_conjuncts cs other premises disjuncts d g qs) follows)
+    (h g (in_claim other premises disjuncts cs d) qs refl)
 
 pub fewer_behind_conjunct : (d : ℕ) (us vs : List source.Token) (ws : Bor (List source.Token)) (c : node.Claim)
     → plain_tokens us ≡ keyword word.And ∷ plain_tokens vs → ParsesConjunct d vs (Ok (c, ws)) → length ws.now < length us
@@ -102,8 +107,10 @@ whole_disjunct d ts us cs c are ends is = λ other premises disjuncts g qs. (
 pub stop_first_disjunct : (d : ℕ) (ts : List source.Token) (fault : ParseFault) (r : Answer) → IsFault fault r → ParsesDisjunct d ts (Err fault)
     → ParsesPremise d ts r
 stop_first_disjunct d ts fault r is h = λ other premises g qs. passed_by claim_of claim_of
-    (reading (want_claim g (in_claim other premises [] [] d) qs) (plain_tokens ts)) (reading (want_claim g (in_claim other premises [] [] d) qs) (plain_tokens ts))
-    (λ c rest. behind_disjunct c other premises [] d g qs rest) (λ c rest. behind_premise c other premises d g qs rest) ts ts fault r is refl (h other premises [] g qs)
+    (reading (want_claim g (in_claim other premises [] [] d) qs) (plain_tokens ts))
+    (reading (want_claim g (in_claim other premises [] [] d) qs) (plain_tokens ts))
+    (λ c rest. behind_disjunct c other premises [] d g qs rest) (λ c rest. behind_premise c other premises d g qs rest) ts ts fault r is refl
+    (h other premises [] g qs)
 
 pub first_disjunct : (d : ℕ) (ts : List source.Token) (us : Bor (List source.Token)) (c : node.Claim) (new : List node.Claim)
     → ParsesDisjunct d ts (Ok (c, us)) → All IsFit (plain_tokens us.now) → new ≡ [] ++ c ∷ [] → AreDisjuncts d ts us.now (claims_of new)
@@ -118,7 +125,8 @@ first_disjunct d ts us c new h fit is = record {
 pub stop_next_disjunct : (d : ℕ) (ts us vs : List source.Token) (cs : List Claim) (fault : ParseFault) (r : Answer) → AreDisjuncts d ts us cs
     → plain_tokens us ≡ keyword word.Or ∷ plain_tokens vs → IsFault fault r → ParsesDisjunct d vs (Err fault) → ParsesPremise d ts r
 stop_next_disjunct d ts us vs cs fault r are follows is h = λ other premises g qs. passed_by claim_of claim_of
-    (reading (want_claim g (in_claim other premises cs [] d) qs) (plain_tokens vs)) (reading (want_claim g (in_claim other premises [] [] d) qs) (plain_tokens ts))
+    (reading (want_claim g (in_claim other premises cs [] d) qs) (plain_tokens vs))
+    (reading (want_claim g (in_claim other premises [] [] d) qs) (plain_tokens ts))
     (λ c rest. behind_disjunct c other premises cs d g qs rest) (λ c rest. behind_premise c other premises d g qs rest) vs ts fault r is
     (are.reads other premises g qs ∙ ap (behind_disjuncts cs other premises d g qs) follows) (h other premises cs g qs)
 

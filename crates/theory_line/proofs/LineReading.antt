@@ -136,7 +136,8 @@ pub record AreArguments (ts us : List source.Token) (xs : List Name) : Type 0 wh
 first_moves : (f : Name) (ts : List Token) → Moves (first_argument f) (at_name (λ x. arguments f (x ∷ []))) ts
 first_moves f ts = always_moves (first_argument f) (at_name (λ x. arguments f (x ∷ []))) ts (λ t. refl) refl
 
-next_moves : (f : Name) (xs : List Name) (ts : List source.Token) → ts ≢ [] → Moves (arguments f xs) (at_name (λ x. arguments f (xs ++ x ∷ []))) (plain_tokens ts)
+next_moves : (f : Name) (xs : List Name) (ts : List source.Token) → ts ≢ [] →
+    Moves (arguments f xs) (at_name (λ x. arguments f (xs ++ x ∷ []))) (plain_tokens ts)
 next_moves f xs [] some = absurd (some refl)
 next_moves f xs (t ∷ ts) some = record { first = λ u us is. refl; unfinished = λ is. absurd cc }
 

@@ -29,23 +29,25 @@ abbrev pub in_claim : Option Claim → List Claim → List Claim → List Claim 
 in_claim other premises disjuncts conjuncts d =
     record { other = other; premises = premises; disjuncts = disjuncts; conjuncts = conjuncts; nots = 0; base = d; depth = d }
 
--- what follows a premise, a side and a whole claim
+-- what follows a premise
 abbrev pub after_premise : Claim → Option Claim → List Claim → ℕ → Heading → List ClaimPlace → Token → Move
 after_premise c other premises d h qs (keyword word.Implies) = Ok (want_claim h (in_claim other (c ∷ premises) [] [] d) qs)
 after_premise c other premises d h qs (keyword word.Iff) = second_side other (want_claim h (in_claim (Some (implied premises c)) [] [] [] d) qs)
 after_premise c other premises d h qs (mark sign.CloseSquare) = close_claim (paired other (implied premises c)) h qs
 after_premise c other premises d h qs _ = unexpected
 
+-- what follows a side
 abbrev pub after_side : Claim → Option Claim → ℕ → Heading → List ClaimPlace → Token → Move
 after_side c other d h qs (keyword word.Iff) = second_side other (want_claim h (in_claim (Some c) [] [] [] d) qs)
 after_side c other d h qs (mark sign.CloseSquare) = close_claim (paired other c) h qs
 after_side c other d h qs _ = unexpected
 
+-- what follows a whole claim
 abbrev pub after_whole : Claim → Heading → List ClaimPlace → Token → Move
 after_whole c h qs (mark sign.CloseSquare) = close_claim c h qs
 after_whole c h qs _ = unexpected
 
--- behind a disjunct, a premise, a side and a whole claim
+-- behind a disjunct
 abbrev pub behind_disjunct : Claim → Option Claim → List Claim → List Claim → ℕ → Heading → List ClaimPlace → List Token → Reading
 behind_disjunct c other premises disjuncts d h qs [] =
     at_end (claim_ended (paired other (implied premises (disjunction_of (disjuncts ++ c ∷ [])))) h qs)
@@ -54,14 +56,17 @@ behind_disjunct c other premises disjuncts d h qs (keyword word.Or ∷ ts) =
 behind_disjunct c other premises disjuncts d h qs (t ∷ ts) =
     reading_on (after_premise (disjunction_of (disjuncts ++ c ∷ [])) other premises d h qs t) ts
 
+-- behind a premise
 abbrev pub behind_premise : Claim → Option Claim → List Claim → ℕ → Heading → List ClaimPlace → List Token → Reading
 behind_premise c other premises d h qs [] = at_end (claim_ended (paired other (implied premises c)) h qs)
 behind_premise c other premises d h qs (t ∷ ts) = reading_on (after_premise c other premises d h qs t) ts
 
+-- behind a side
 abbrev pub behind_side : Claim → Option Claim → ℕ → Heading → List ClaimPlace → List Token → Reading
 behind_side c other d h qs [] = at_end (claim_ended (paired other c) h qs)
 behind_side c other d h qs (t ∷ ts) = reading_on (after_side c other d h qs t) ts
 
+-- behind a whole claim
 abbrev pub behind_claim : Claim → Heading → List ClaimPlace → List Token → Reading
 behind_claim c h qs [] = at_end (claim_ended c h qs)
 behind_claim c h qs (t ∷ ts) = reading_on (after_whole c h qs t) ts

@@ -26,20 +26,24 @@ abbrev pub ParsesClaim : ℕ → List source.Token → Answer → Type 0
 ParsesClaim d ts r = (h : Heading) (qs : List ClaimPlace) →
     Parses claim_of (reading (want_claim h (fresh_claim d) qs) (plain_tokens ts)) (λ c rest. behind_claim c h qs rest) ts r
 
+-- likewise a side
 abbrev pub ParsesSide : ℕ → List source.Token → Answer → Type 0
 ParsesSide d ts r = (other : Option Claim) (h : Heading) (qs : List ClaimPlace) →
     Parses claim_of (reading (want_claim h (in_claim other [] [] [] d) qs) (plain_tokens ts)) (λ c rest. behind_side c other d h qs rest) ts r
 
+-- likewise a premise
 abbrev pub ParsesPremise : ℕ → List source.Token → Answer → Type 0
 ParsesPremise d ts r = (other : Option Claim) (premises : List Claim) (h : Heading) (qs : List ClaimPlace) →
     Parses claim_of (reading (want_claim h (in_claim other premises [] [] d) qs) (plain_tokens ts))
     (λ c rest. behind_premise c other premises d h qs rest) ts r
 
+-- likewise a disjunct
 abbrev pub ParsesDisjunct : ℕ → List source.Token → Answer → Type 0
 ParsesDisjunct d ts r = (other : Option Claim) (premises disjuncts : List Claim) (h : Heading) (qs : List ClaimPlace) →
     Parses claim_of (reading (want_claim h (in_claim other premises disjuncts [] d) qs) (plain_tokens ts))
     (λ c rest. behind_disjunct c other premises disjuncts d h qs rest) ts r
 
+-- likewise a conjunct, in so many open signs
 abbrev pub ParsesConjunct : ℕ → List source.Token → Answer → Type 0
 ParsesConjunct d ts r = (h : Heading) (q : ClaimPlace) (qs : List ClaimPlace) → q.depth ≡ d →
     Parses claim_of (reading (want_claim h q qs) (plain_tokens ts)) (λ c rest. reading (have_claim c h q qs) rest) ts r

@@ -59,29 +59,32 @@ abbrev pub ParsesTerm : ℕ → List source.Token → Answer → Type 0
 ParsesTerm d ts r = (s : Left) (o : List Place) (ctx : Context) →
     Parses expr_of (reading (operand (in_sum s d) o ctx) (plain_tokens ts)) (λ x rest. behind_term (joined s x) d o ctx rest) ts r
 
--- likewise a factor, and one behind a prefix minus
+-- likewise a factor
 abbrev pub ParsesFactor : ℕ → List source.Token → Answer → Type 0
 ParsesFactor d ts r = (p : Place) (o : List Place) (ctx : Context) → p.depth ≡ d →
     Parses expr_of (reading (operand p o ctx) (plain_tokens ts)) (λ x rest. reading (factored x p o ctx) rest) ts r
 
+-- likewise a factor behind a prefix minus
 abbrev pub ParsesOpposite : ℕ → List source.Token → Answer → Type 0
 ParsesOpposite d ts r = (p : Place) (o : List Place) (ctx : Context) → suc p.depth ≡ d →
     Parses expr_of (reading (operand (opposed p) o ctx) (plain_tokens ts)) (λ x rest. reading (factored x p o ctx) rest) ts r
 
--- likewise a primary, and an expression behind an open bracket
+-- likewise a primary
 abbrev pub ParsesPrimary : ℕ → List source.Token → Answer → Type 0
 ParsesPrimary d ts r = (p : Place) (o : List Place) (ctx : Context) → p.depth ≡ d →
     Parses expr_of (reading (operand p o ctx) (plain_tokens ts)) (λ x rest. reading (closed x p o ctx) rest) ts r
 
+-- likewise an expression behind an open bracket
 abbrev pub ParsesBracketed : ℕ → List source.Token → Answer → Type 0
 ParsesBracketed d ts r = (p : Place) (o : List Place) (ctx : Context) →
     Parses expr_of (reading (operand (fresh d) (p ∷ o) ctx) (plain_tokens ts)) (λ x rest. reading (closed x p o ctx) rest) ts r
 
--- likewise the second number of a fraction literal, and an exponent
+-- likewise the second number of a fraction literal
 abbrev pub ParsesBelow : ℕ → List source.Token → Answer → Type 0
 ParsesBelow n ts r = (p : Place) (o : List Place) (ctx : Context) →
     Parses expr_of (reading (below n p o ctx) (plain_tokens ts)) (λ x rest. reading (factored x p o ctx) rest) ts r
 
+-- likewise an exponent of this base
 abbrev pub ParsesExponent : Expr → List source.Token → Answer → Type 0
 ParsesExponent base ts r = (p : Place) (o : List Place) (ctx : Context) →
     Parses expr_of (reading (exponent base p o ctx) (plain_tokens ts)) (λ x rest. reading (factored x p o ctx) rest) ts r

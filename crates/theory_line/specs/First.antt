@@ -47,11 +47,12 @@ BeginsNoClaim (keyword word.Not ∷ ts) = ⊥
 BeginsNoClaim (mark sign.OpenSquare ∷ ts) = ⊥
 BeginsNoClaim _ = Unit {0}
 
--- this word stands first with these tokens behind it, or none does
+-- no word stands first
 abbrev pub HasNoKeyword : List Token → Type 0
 HasNoKeyword (keyword k ∷ ts) = ⊥
 HasNoKeyword _ = Unit {0}
 
+-- this word stands first with these tokens behind it, or no word does
 abbrev pub KeywordFirst : List Token → Option (Keyword × Bor (List source.Token)) → Type 0
 KeywordFirst ts None = HasNoKeyword ts
 KeywordFirst ts (Some (k, rest)) = ts ≡ keyword k ∷ plain_tokens rest.now

@@ -44,7 +44,8 @@ no_counter : (assumed : List Claim) (c : Claim) → ((p : Point) → ¬ Meets (c
 no_counter assumed c none p h =
     ⊎_elim (λ t. t) (λ f. absurd (none p (met_both assumed (negation c) p h (not_from_false (truth_of c p) f)))) (cases_Bool (truth_of c p))
 
-right : (assumed : List Claim) (c : Claim) (example counter : Presence) → IsRightPresence (example_sentence assumed c) example → IsRightPresence (counter_sentence assumed c) counter →
+right : (assumed : List Claim) (c : Claim) (example counter : Presence) → IsRightPresence (example_sentence assumed c) example →
+    IsRightPresence (counter_sentence assumed c) counter →
     IsRightVerdict (Meets assumed) (IsTrueAt c) (verdict_of_presences example counter)
 right assumed c unknown counter e k = tt
 right assumed c there unknown e k = tt
@@ -61,4 +62,5 @@ pub right_halves_give_the_right_verdict : (assumed : List Claim) (c : Claim) (ex
     IsRightHalf (example_sentence assumed c) example → IsRightHalf (counter_sentence assumed c) counter →
     IsRightVerdict (Meets assumed) (IsTrueAt c) (verdict_of_halves example counter)
 right_halves_give_the_right_verdict assumed c example counter e k =
-    right assumed c (presence_of example) (presence_of counter) (right_presence (example_sentence assumed c) example e) (right_presence (counter_sentence assumed c) counter k)
+    right assumed c (presence_of example) (presence_of counter) (right_presence (example_sentence assumed c) example e)
+    (right_presence (counter_sentence assumed c) counter k)

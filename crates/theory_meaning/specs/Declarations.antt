@@ -65,6 +65,7 @@ pub data Use : Type 0 where
 abbrev pub derivative_mark : Name
 derivative_mark = codes "d"
 
+-- what a symbol uses, by the parts before and behind its first dot
 abbrev pub use_by_parts : Name → Option (Name × Name) → Use
 use_by_parts name None = itself name
 use_by_parts name (Some p) = if bytes_eq p.0 derivative_mark then derivative p.1 else slope p.0 p.1
@@ -132,6 +133,7 @@ abbrev pub shifted_by : Name → Line → Option Bool
 shifted_by label (claim own shift c) = if bytes_eq own label then Some (is_some shift) else None
 shifted_by label _ = None
 
+-- the first answer where there is one, else the later
 abbrev pub or_answer : Option Bool → Bool → Bool
 or_answer (Some b) later = b
 or_answer None later = later

@@ -23,6 +23,7 @@ names_of (claim label (Some t) c) = label ∷ t ∷ []
 abbrev pub HasIdentifiers : Line → Type 0
 HasIdentifiers line = AllByRecursion IsIdentifier (names_of line)
 
+-- so it is in each of the lines
 abbrev pub HaveIdentifiers : List Numbered → Type 0
 HaveIdentifiers lines = AllByRecursion (λ n. HasIdentifiers n.line) lines
 

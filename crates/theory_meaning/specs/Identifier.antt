@@ -4,6 +4,7 @@ use Rattle.std.specs.List.{list_all, list_any}
 use Rattle.std.specs.Str.{bytes_eq}
 use Rattle.theory_meaning.specs.Point.{Name}
 
+-- an ASCII digit
 abbrev pub is_digit : ℕ → Bool
 is_digit b = nat_le 48 b && nat_le b 57
 
@@ -22,8 +23,10 @@ is_word (b ∷ bs) = is_letter b && list_all is_word_byte bs
 
 -- the words of the language that take up a line, and `d`, which stands before the dot of a shift
 abbrev pub reserved_words : List (List ℕ)
-reserved_words = codes "model" ∷ codes "var" ∷ codes "param" ∷ codes "fun" ∷ codes "of" ∷ codes "eq" ∷ codes "assume" ∷ codes "claim" ∷ codes "by" ∷ codes "not" ∷ codes "and" ∷ codes "or" ∷ codes "implies" ∷ codes "iff" ∷ codes "true" ∷ codes "false" ∷ codes "d" ∷ []
+reserved_words = codes "model" ∷ codes "var" ∷ codes "param" ∷ codes "fun" ∷ codes "of" ∷ codes "eq" ∷ codes "assume" ∷ codes "claim" ∷ codes "by" ∷ codes
+    "not" ∷ codes "and" ∷ codes "or" ∷ codes "implies" ∷ codes "iff" ∷ codes "true" ∷ codes "false" ∷ codes "d" ∷ []
 
+-- the bytes are a reserved word
 abbrev pub is_reserved : List ℕ → Bool
 is_reserved bs = list_any (bytes_eq bs) reserved_words
 

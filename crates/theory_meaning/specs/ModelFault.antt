@@ -10,21 +10,25 @@ use Rattle.theory_meaning.specs.Text.{Numbered}
 use Rattle.theory_meaning.specs.Tree.{Line, model, function, equation, claim}
 use Rattle.theory_meaning.specs.Declarations.{Declared, variable, parameter, function_of, key_of, or_else, declared_in, Use, itself, derivative, slope, use_of, symbols_of_line, named_by, listed_in}
 
--- the greatest number of listed symbols of a claim, and of lines
+-- the greatest number of listed symbols of a claim
 abbrev pub most_symbols : ℕ
 most_symbols = 32
 
+-- the greatest number of lines of a model
 abbrev pub most_lines : ℕ
 most_lines = 200
 
+-- a name is declared as a variable
 abbrev pub is_variable : Option Declared → Bool
 is_variable (Some variable) = true
 is_variable _ = false
 
+-- a name is declared as a parameter
 abbrev pub is_parameter : Option Declared → Bool
 is_parameter (Some parameter) = true
 is_parameter _ = false
 
+-- a name is declared as a function
 abbrev pub is_function : Option Declared → Bool
 is_function (Some (function_of us)) = true
 is_function _ = false
@@ -34,10 +38,12 @@ abbrev pub has_argument : Name → Option Declared → Bool
 has_argument u (Some (function_of us)) = list_any (bytes_eq u) us
 has_argument u _ = false
 
+-- the line is a model line
 abbrev pub is_model_line : Line → Bool
 is_model_line (model n) = true
 is_model_line _ = false
 
+-- no line stands above
 abbrev pub is_first : List Numbered → Bool
 is_first [] = true
 is_first _ = false
@@ -73,24 +79,29 @@ is_unfit_use lines (itself x) = false
 is_unfit_use lines (derivative x) = not (is_variable (declared_in lines x))
 is_unfit_use lines (slope f u) = not (has_argument u (declared_in lines f))
 
+-- the derivative of a variable is used
 abbrev pub is_derivative_use : Use → Bool
 is_derivative_use (derivative x) = true
 is_derivative_use _ = false
 
+-- the slope of a function is used
 abbrev pub is_slope_use : Use → Bool
 is_slope_use (slope f u) = true
 is_slope_use _ = false
 
--- the same of what a symbol uses
+-- what a symbol uses is unknown
 abbrev pub is_unknown : List Numbered → Name → Bool
 is_unknown lines name = is_unknown_use lines (use_of name)
 
+-- what a symbol uses is unfit
 abbrev pub is_unfit : List Numbered → Name → Bool
 is_unfit lines name = is_unfit_use lines (use_of name)
 
+-- a symbol that stands for a derivative
 abbrev pub is_derivative : Name → Bool
 is_derivative name = is_derivative_use (use_of name)
 
+-- a symbol that stands for a slope
 abbrev pub is_slope : Name → Bool
 is_slope name = is_slope_use (use_of name)
 

@@ -16,6 +16,7 @@ pub data Expr : Type 0 where
 
 -- a claim, with lists of claims as a type beside it
 mutual
+  -- a claim over names
   pub data Claim : Type 0 where
     always : Claim
     never : Claim
@@ -26,6 +27,7 @@ mutual
     implication : Claim → Claim → Claim
     equivalence : Claim → Claim → Claim
 
+  -- the members of a conjunction or disjunction
   pub data Claims : Type 0 where
     none : Claims
     more : Claim → Claims → Claims

@@ -11,6 +11,7 @@ pub data Presence : Type 0 where
   missing : Presence
   unknown : Presence
 
+-- whether a half tells a point; one that is left open tells nothing
 abbrev pub presence_of : Half → Presence
 presence_of (found p) = there
 presence_of found_wide = there

@@ -21,16 +21,19 @@ one_twenty_seventh = record { num = pos 1; less = 26 }
 abbrev pub the_variable : Expr
 the_variable = symbol (codes "x")
 
--- the points at which it is 0, 1/3, 1/2 and 1
+-- the point at which it is 0
 abbrev pub at_zero : Point
 at_zero = only_at (codes "x") (whole (pos 0))
 
+-- the point at which it is 1/3
 abbrev pub at_one_third : Point
 at_one_third = only_at (codes "x") one_third
 
+-- the point at which it is 1/2
 abbrev pub at_one_half : Point
 at_one_half = only_at (codes "x") one_half
 
+-- the point at which it is 1
 abbrev pub at_one : Point
 at_one = only_at (codes "x") (whole (pos 1))
 

@@ -1,9 +1,9 @@
-//! What is true of an economic model: fractions of any size, points, the plain trees of expressions,
-//! claims and lines, their values and truth, right halves and right verdicts.
+//! What is true of an economic model: fractions of any size, points, the plain trees of
+//! expressions, claims and lines, their values and truth, right halves and right verdicts.
 //!
-//! The definitions stand in `specs/`, in plain data. Nothing of the product's code is used or repeated
-//! here; the enums below have no fields, and the product shares them. `slow` is a program that
-//! computes values and truth as they are defined, and no more than that.
+//! The definitions stand in `specs/`, in plain data. Nothing of the product's code is used or
+//! repeated here; the enums below have no fields, and the product shares them. `slow` is a program
+//! that computes values and truth as they are defined, and no more than that.
 #![tactic(auto)]
 
 mod laws;

@@ -1,7 +1,7 @@
-//! A plain and slow program that computes values and truth as they are defined, on trees of its own.
+//! A plain and slow program that computes values and truth as defined, on trees of its own.
 //!
-//! Each call answers what the definition gives, or None where a part of a fraction doesn't fit. Nothing
-//! is brought to lowest terms, and the product shares no step with it. Read `truth` first.
+//! Each call answers what the definition gives, or None where a part of a fraction doesn't fit.
+//! Nothing is brought to lowest terms, and the product shares no step with it. Read `truth` first.
 
 mod fractions;
 mod truths;

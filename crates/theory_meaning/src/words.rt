@@ -41,7 +41,7 @@ pub enum ModelKind {
     KeyTwice,
     /// A name in the line is declared nowhere.
     UnknownName,
-    /// An argument, a slope or a derivative doesn't fit what is declared, or an equation holds a slope.
+    /// An argument, slope or derivative doesn't fit what is declared, or an equation holds a slope.
     BadArgument,
     /// A derivative stands where no parameter is shifted.
     NoShift,

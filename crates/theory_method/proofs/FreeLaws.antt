@@ -36,7 +36,8 @@ one_lacks x t ts h k = record {
 }
 
 part_step : (x k : ℕ) (t : Monomial) (ts : List Monomial) (b : Bool) → LacksSymbol x (part_of x k ts)
-    → LacksSymbol x (map (λ t. monomial t.coefficient (set t.powers x 0)) (cond b (t ∷ filter (λ t. exponent_of x t == k) ts) (filter (λ t. exponent_of x t == k) ts)))
+    → LacksSymbol x (map (λ t. monomial t.coefficient (set t.powers x 0))
+    (cond b (t ∷ filter (λ t. exponent_of x t == k) ts) (filter (λ t. exponent_of x t == k) ts)))
 part_step x k t ts true h = one_lacks x (monomial t.coefficient (set t.powers x 0)) (part_of x k ts) (set_zero t.powers x) h
 part_step x k t ts false h = h
 

@@ -30,12 +30,14 @@ find-nothing test [] h c i = absurd (let m = i.1 in omega arith)
 find-nothing test (d ∷ cs) h c i =
     elim (test d) as (λ (t : Bool). test d ≡ t → cond t (Some d) (find test cs) ≡ None → test c ≡ false) [
       | true ↦ λ e f. absurd (let bad : ◌≡◌ {A = Option Fraction} (Some d) None = f in cc)
-      | false ↦ λ e f. ⊎_elim (λ k. ⊎_elim (λ n. absurd (let m = n.1 in omega arith)) (λ same. subst (λ (r : Fraction). test r ≡ false) same e) (Contains-push_cases [] d c k))
+      | false ↦ λ e f. ⊎_elim (λ k. ⊎_elim (λ n. absurd (let m = n.1 in omega arith)) (λ same. subst (λ (r : Fraction). test r ≡ false) same e)
+          (Contains-push_cases [] d c k))
           (λ k. find-nothing test cs f c k) (Contains-append_cases (d ∷ []) cs c i)
     ] refl h
 
 -- the half of the first candidate that passes, by cases
-right_at : (x : Name) (claims : List Claim) (half : Half) (bs cs : List Fraction) (o : Option Fraction) → AreAffine x claims → AreBreakpoints x claims bs → AreCandidates bs cs →
+right_at : (x : Name) (claims : List Claim) (half : Half) (bs cs : List Fraction) (o : Option Fraction) → AreAffine x claims → AreBreakpoints x claims bs →
+    AreCandidates bs cs →
     first_that_meets x claims cs ≡ o → IsHalfAt x o half → IsRightHalf claims half
 right_at x claims half bs cs None affine breaks tried first is =
     subst (IsRightHalf claims) (sym is)
@@ -45,8 +47,10 @@ right_at x claims half bs cs (Some q) affine breaks tried first is =
     let passes : meets claims (only_at x q) ≡ true = find-passes (λ q. meets claims (only_at x q)) cs q first in
     ⊎_elim
     (λ f. subst (IsRightHalf claims) (sym f.2)
-    (one_value_decides x claims affine f.0 ∙ affine_claims_are_steady x claims bs affine breaks (value_at f.0 x) q (alike_same bs (value_at f.0 x) q f.1.equal) ∙ passes))
+    (one_value_decides x claims affine f.0 ∙ affine_claims_are_steady x claims bs affine breaks (value_at f.0 x) q
+    (alike_same bs (value_at f.0 x) q f.1.equal) ∙ passes))
     (λ w. subst (IsRightHalf claims) (sym w.1) (only_at x q, passes)) is
 
 pub written_halves_are_right : (x : Name) (claims : List Claim) (half : Half) → AreAffine x claims → IsWrittenHalf x claims half → IsRightHalf claims half
-written_halves_are_right x claims half affine (bs, cs, breaks, tried, is) = right_at x claims half bs cs (first_that_meets x claims cs) affine breaks tried refl is
+written_halves_are_right x claims half affine (bs, cs, breaks, tried, is) = right_at x claims half bs cs (first_that_meets x claims cs) affine
+    breaks tried refl is

@@ -89,10 +89,12 @@ above x k q p (t ∷ ts) = fraction_sum (fraction_product (left_power q k (expon
 
 -- the part of one term
 equal_part : (x k : ℕ) (p : Values) (t : Monomial) (ts : List Monomial)
-    → Equals (fraction_sum (fraction_product (equal_power k (exponent_of x t)) (bare x t p)) (polynomial_at (part_of x k ts) p)) (polynomial_at (part_of x k (t ∷ ts)) p)
+    → Equals (fraction_sum (fraction_product (equal_power k (exponent_of x t)) (bare x t p)) (polynomial_at (part_of x k ts) p))
+    (polynomial_at (part_of x k (t ∷ ts)) p)
 unfolding bare
 equal_part x k p t ts =
-    let keep : Bool → List Monomial = λ b. map (λ t. monomial t.coefficient (set t.powers x 0)) (cond b (t ∷ filter (λ t. exponent_of x t == k) ts) (filter (λ t. exponent_of x t == k) ts)) in
+    let keep : Bool → List Monomial = λ b. map (λ t. monomial t.coefficient (set t.powers x 0))
+    (cond b (t ∷ filter (λ t. exponent_of x t == k) ts) (filter (λ t. exponent_of x t == k) ts)) in
     let rest : Fraction = polynomial_at (part_of x k ts) p in
     let own : Fraction = term_at (monomial t.coefficient (set t.powers x 0)) p in
     elim (cases_Bool (exponent_of x t == k)) [
@@ -117,7 +119,8 @@ horner x k q p (t ∷ ts) =
     let one : Fraction = equal_power k (exponent_of x t) in
     let rest : Fraction = above x (suc k) q p ts in
     let part : Fraction = polynomial_at (part_of x k ts) p in
-    let own : Equals (fraction_product (left_power q k (exponent_of x t)) w) (fraction_sum (fraction_product q (fraction_product high w)) (fraction_product one w)) =
+    let own : Equals (fraction_product (left_power q k (exponent_of x t)) w)
+    (fraction_sum (fraction_product q (fraction_product high w)) (fraction_product one w)) =
     along (products (power_step q k (exponent_of x t)) (same_as w))
     (along (back (sum_times_is (fraction_product q high) one w)) (sums (exact (product_assoc q high w)) (same_as (fraction_product one w)))) in
     along (sums own (horner x k q p ts))

@@ -22,7 +22,10 @@ cross_value : (a b2 a2 b : List Monomial) (p : Values) → Equals (polynomial_at
 cross_value a b2 a2 b p =
     let second = value_of_product a2 b p in
     along (value_of_difference (product_of a b2) (product_of a2 b) p)
-    (along (sums (value_of_product a b2 p) (record { is = opposite_respects (polynomial_at (product_of a2 b) p) (fraction_product (polynomial_at a2 p) (polynomial_at b p)) second.is }))
+    (along (sums (value_of_product a b2 p) (record {
+      is = opposite_respects (polynomial_at (product_of a2 b) p)
+          (fraction_product (polynomial_at a2 p) (polynomial_at b p)) second.is;
+    }))
     (exact (sym (difference-is (fraction_product (polynomial_at a p) (polynomial_at b2 p)) (fraction_product (polynomial_at a2 p) (polynomial_at b p))))))
 
 -- the sign of what is left of a cross product

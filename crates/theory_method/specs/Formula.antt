@@ -7,8 +7,9 @@ use Rattle.theory_method.specs.Polynomial.{Monomial}
 use Rattle.theory_method.specs.PolynomialValue.{Values, polynomial_at}
 use Rattle.theory_method.specs.Signs.{has, complement, sign_of}
 
--- a formula, with lists of formulas as a type beside it; an atom says that the sign of a polynomial is in a set
+-- a formula, with lists of formulas as a type beside it
 mutual
+  -- a formula over symbols, in which an atom says that the sign of a polynomial is in a set
   pub data Formula : Type 0 where
     always : Formula
     never : Formula
@@ -16,6 +17,7 @@ mutual
     conjunction : Formulas → Formula
     disjunction : Formulas → Formula
 
+  -- the members of a conjunction or disjunction
   pub data Formulas : Type 0 where
     none : Formulas
     more : Formula → Formulas → Formulas

@@ -13,10 +13,11 @@ opposite_rel Le = Gt
 opposite_rel Gt = Le
 opposite_rel Ge = Lt
 
--- two claims, both or either of them
+-- both claims are true
 abbrev pub both : Claim → Claim → Claim
 both a b = conjunction (more a (more b none))
 
+-- at least one of two claims is true
 abbrev pub either : Claim → Claim → Claim
 either a b = disjunction (more a (more b none))
 

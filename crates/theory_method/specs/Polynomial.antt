@@ -5,17 +5,20 @@ use Prim.Native.Nat.{◌∣◌}
 use Rattle.theory_meaning.specs.Limits.{bound}
 pub use Rattle.theory_method.specs.Terms.{Monomial, monomial, coefficient_at, AreSame, Precedes, IsTerm, PrecedesFirst, IsPolynomial, IsPolynomialOf, scaled, powers_of_product, product_of_two, multiple_of, sum_of, difference_of, product_of, cross_of, no_powers, constant_of, symbol_of}
 
--- the exponent of a symbol, and the greatest one in a polynomial, 0 for none
+-- the exponent of a symbol
 abbrev pub exponent_of : ℕ → Monomial → ℕ
 exponent_of x t = slice_index t.powers x
 
+-- the greatest exponent of a symbol, 0 for no term
 abbrev pub degree_in : ℕ → List Monomial → ℕ
 degree_in x [] = 0
 degree_in x (t ∷ ts) = max (exponent_of x t) (degree_in x ts)
 
+-- the symbol does not occur
 abbrev pub IsFreeOf : ℕ → List Monomial → Type 0
 IsFreeOf x ts = degree_in x ts ≡ 0
 
+-- the symbol occurs with exponent 1 at most
 abbrev pub IsLinearIn : ℕ → List Monomial → Type 0
 IsLinearIn x ts = degree_in x ts ≤ 1
 
@@ -30,11 +33,12 @@ abbrev pub height_of : List Monomial → ℕ
 height_of [] = 0
 height_of (t ∷ ts) = max (unsigned_abs t.coefficient) (height_of ts)
 
--- the greatest of some exponents, and of all in a polynomial, 0 for none
+-- the greatest of some exponents, 0 for none
 abbrev pub greatest_of : List ℕ → ℕ
 greatest_of [] = 0
 greatest_of (n ∷ e) = max n (greatest_of e)
 
+-- the greatest exponent of all terms, 0 for none
 abbrev pub greatest_exponent_of : List Monomial → ℕ
 greatest_exponent_of [] = 0
 greatest_exponent_of (t ∷ ts) = max (greatest_of t.powers) (greatest_exponent_of ts)
@@ -45,6 +49,7 @@ pub record IsWithinLimits (r : List Monomial) : Type 0 where
   pub exponents : greatest_exponent_of r ≤ 15
   pub coefficients : height_of r ≤ bound
 
+-- one of these limits is passed
 abbrev pub PassesLimit : List Monomial → Type 0
 PassesLimit r = (128 < length r) ⊎ ((15 < greatest_exponent_of r) ⊎ (bound < height_of r))
 

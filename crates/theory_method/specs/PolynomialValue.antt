@@ -10,14 +10,17 @@ use Rattle.theory_method.specs.Polynomial.{Monomial, monomial, exponent_of, degr
 abbrev pub Values : Type 0
 Values = List Fraction
 
+-- the value of symbol 0
 abbrev pub first_of : Values → Fraction
 first_of [] = whole (pos 0)
 first_of (q ∷ p) = q
 
+-- the values of the symbols behind it
 abbrev pub rest_of : Values → Values
 rest_of [] = []
 rest_of (q ∷ p) = p
 
+-- the value of a symbol
 abbrev pub symbol_at : ℕ → Values → Fraction
 symbol_at zero p = first_of p
 symbol_at (suc k) p = symbol_at k (rest_of p)
@@ -27,10 +30,11 @@ abbrev pub power_product : List ℕ → Values → Fraction
 power_product [] p = whole (pos 1)
 power_product (n ∷ e) p = fraction_product (power_of (first_of p) n) (power_product e (rest_of p))
 
--- the value of a term and of a sum of terms
+-- the value of a term
 abbrev pub term_at : Monomial → Values → Fraction
 term_at t p = fraction_product (whole t.coefficient) (power_product t.powers p)
 
+-- the value of a sum of terms
 abbrev pub polynomial_at : List Monomial → Values → Fraction
 polynomial_at [] p = whole (pos 0)
 polynomial_at (t ∷ ts) p = fraction_sum (term_at t p) (polynomial_at ts p)

@@ -30,6 +30,7 @@ pub record IsLowestOf (q r : Quotient) : Type 0 where
 abbrev pub QuotientPasses : Quotient → Type 0
 QuotientPasses q = PassesLimit q.top ⊎ (bound < q.below)
 
+-- the polynomial is within the limits, and the number below within the bound
 pub record QuotientIsWithin (q : Quotient) : Type 0 where
   pub top : IsWithinLimits q.top
   pub below : q.below ≤ bound
@@ -38,14 +39,16 @@ pub record QuotientIsWithin (q : Quotient) : Type 0 where
 abbrev pub IsQuotientBeyond : Quotient → Type 0
 IsQuotientBeyond q = (r : Quotient) × IsLowestOf q r × QuotientPasses r
 
--- sum, difference and product over the product of the numbers below
+-- the sum, over the product of the numbers below
 abbrev pub sum_of_quotients : Quotient → Quotient → Quotient
 sum_of_quotients q r = record { top = sum_of (scaled (pos r.below) q.top) (scaled (pos q.below) r.top); below = q.below * r.below }
 
+-- the difference, likewise
 abbrev pub difference_of_quotients : Quotient → Quotient → Quotient
 difference_of_quotients q r =
     record { top = difference_of (scaled (pos r.below) q.top) (scaled (pos q.below) r.top); below = q.below * r.below }
 
+-- the product of the polynomials over that of the numbers below
 abbrev pub product_of_quotients : Quotient → Quotient → Quotient
 product_of_quotients q r = record { top = product_of q.top r.top; below = q.below * r.below }
 

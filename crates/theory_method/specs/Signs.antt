@@ -23,6 +23,7 @@ has set.NonZero _ = true
 has set.NotNeg Minus = false
 has set.NotNeg _ = true
 
+-- the sign is zero
 abbrev pub is_zero : Sign → Bool
 is_zero Zero = true
 is_zero _ = false
@@ -61,13 +62,15 @@ complement set.NotPos = set.Pos
 complement set.NonZero = set.Zero
 complement set.NotNeg = set.Neg
 
--- the set less zero, the common signs and the signs of either; None where no sign is left, or each sign is there
+-- the set less zero; None where no sign is left
 abbrev pub without_zero : Signs → Option Signs
 without_zero S = set_of (has S Minus) false (has S Plus)
 
+-- the common signs; None where no sign is left
 abbrev pub meet : Signs → Signs → Option Signs
 meet S T = set_of (has S Minus && has T Minus) (has S Zero && has T Zero) (has S Plus && has T Plus)
 
+-- the signs of either; None where each sign is there
 abbrev pub join : Signs → Signs → Option Signs
 join S T = set_of (has S Minus || has T Minus) (has S Zero || has T Zero) (has S Plus || has T Plus)
 
@@ -80,11 +83,12 @@ signs_of Le = set.NotPos
 signs_of Gt = set.Pos
 signs_of Ge = set.NotNeg
 
--- the sign of a whole number, and of a fraction by its numerator
+-- the sign of a whole number
 abbrev pub sign_of_whole : ℤ → Sign
 sign_of_whole (pos zero) = Zero
 sign_of_whole (pos (suc n)) = Plus
 sign_of_whole (negsuc n) = Minus
 
+-- the sign of a fraction: that of its numerator
 abbrev pub sign_of : Fraction → Sign
 sign_of q = sign_of_whole q.num

@@ -12,6 +12,7 @@ use Rattle.theory_method.specs.declared.polynomial.Term.{Term}
 abbrev pub Monomial : Type 0
 Monomial = Term ℤ
 
+-- the term with this coefficient and these exponents
 abbrev pub monomial : ℤ → List ℕ → Monomial
 monomial c e = record { coefficient = c; powers = e }
 
@@ -58,20 +59,23 @@ powers_of_product [] f = f
 powers_of_product (m ∷ e) [] = m ∷ e
 powers_of_product (m ∷ e) (n ∷ f) = (m + n) ∷ powers_of_product e f
 
--- a term times a term, and times a sum of terms
+-- a term times a term
 abbrev pub product_of_two : Monomial → Monomial → Monomial
 product_of_two t u = monomial (t.coefficient *ℤ u.coefficient) (powers_of_product t.powers u.powers)
 
+-- a term times a sum of terms
 abbrev pub multiple_of : Monomial → List Monomial → List Monomial
 multiple_of t us = map (product_of_two t) us
 
--- sum, difference and product of sums of terms: each term of one times each of the other
+-- the sum of sums of terms: the terms of both
 abbrev pub sum_of : List Monomial → List Monomial → List Monomial
 sum_of ts us = ts ++ us
 
+-- the difference of sums of terms: the other with its signs turned
 abbrev pub difference_of : List Monomial → List Monomial → List Monomial
 difference_of ts us = ts ++ scaled (negsuc 0) us
 
+-- their product: each term of one times each of the other
 abbrev pub product_of : List Monomial → List Monomial → List Monomial
 product_of [] us = []
 product_of (t ∷ ts) us = multiple_of t us ++ product_of ts us
@@ -80,12 +84,14 @@ product_of (t ∷ ts) us = multiple_of t us ++ product_of ts us
 abbrev pub cross_of : List Monomial → List Monomial → List Monomial → List Monomial → List Monomial
 cross_of a b2 a2 b = difference_of (product_of a b2) (product_of a2 b)
 
--- a whole number, and a symbol
+-- no symbol occurs
 abbrev pub no_powers : List ℕ
 no_powers = replicate 32 0
 
+-- a whole number as a sum of terms
 abbrev pub constant_of : ℤ → List Monomial
 constant_of c = monomial c no_powers ∷ []
 
+-- a symbol as a sum of terms
 abbrev pub symbol_of : ℕ → List Monomial
 symbol_of x = monomial (pos 1) (slice_set no_powers x 1) ∷ []

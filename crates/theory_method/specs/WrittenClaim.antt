@@ -50,11 +50,12 @@ multiple_of n (u ∷ us) = if n == 1 then product_from u us else product_from (n
 abbrev pub term_of : List Name → Monomial → Expr
 term_of ns t = multiple_of (unsigned_abs t.coefficient) (factors_of ns t.powers)
 
--- a sum of terms, with differences for negative coefficients and a minus sign before a negative first one
+-- terms behind an expression, with differences for negative coefficients
 abbrev pub sum_from : List Name → Expr → List Monomial → Expr
 sum_from ns u [] = u
 sum_from ns u (t ∷ ts) = sum_from ns (if int_lt t.coefficient (pos 0) then difference u (term_of ns t) else sum u (term_of ns t)) ts
 
+-- the expression of a sum of terms, with a minus sign before a negative first term
 abbrev pub polynomial_of : List Name → List Monomial → Expr
 polynomial_of ns [] = number (whole (pos 0))
 polynomial_of ns (t ∷ ts) = sum_from ns (if int_lt t.coefficient (pos 0) then opposite (term_of ns t) else term_of ns t) ts

@@ -7,7 +7,8 @@ ghost use Rattle.theory_method.specs.PolynomialValue.{Values, symbol_at, polynom
 
 /// A list in the fixed order, without zeros, is known by its coefficients.
 pub fn polynomial_is_unique()
-    ensures { (ts us : List Monomial) → IsPolynomial ts → IsPolynomial us → AreSame ts us → ts ≡ us }
+    ensures { (ts us : List Monomial) → IsPolynomial ts → IsPolynomial us → AreSame ts us →
+        ts ≡ us }
 {}
 
 /// Coefficients add up, take the difference and are multiplied, exponent list by exponent list.
@@ -15,32 +16,38 @@ pub fn coefficients_of_operations()
     ensures sum { (ts us : List Monomial) (e : List ℕ) →
         coefficient_at (sum_of ts us) e ≡ coefficient_at ts e +ℤ coefficient_at us e }
     ensures difference { (ts us : List Monomial) (e : List ℕ) →
-        coefficient_at (difference_of ts us) e ≡ coefficient_at ts e +ℤ neg_ℤ (coefficient_at us e) }
+        coefficient_at (difference_of ts us) e
+        ≡ coefficient_at ts e +ℤ neg_ℤ (coefficient_at us e) }
     ensures multiple { (n : ℤ) (ts : List Monomial) (e : List ℕ) →
         coefficient_at (scaled n ts) e ≡ n *ℤ coefficient_at ts e }
 {}
 
 /// Sums of terms with the same coefficients have the same value at every point.
 pub fn value_reads_coefficients()
-    ensures value { (ts us : List Monomial) (p : Values) → AreSame ts us → IsSame (polynomial_at ts p) (polynomial_at us p) }
+    ensures value { (ts us : List Monomial) (p : Values) → AreSame ts us →
+        IsSame (polynomial_at ts p) (polynomial_at us p) }
     ensures sign { (ts us : List Monomial) → AreSame ts us → HaveSameSign ts us }
 {}
 
 /// The value of a sum is the sum of the values, and so on.
 pub fn values_of_operations()
     ensures sum { (ts us : List Monomial) (p : Values) →
-        IsSame (polynomial_at (sum_of ts us) p) (fraction_sum (polynomial_at ts p) (polynomial_at us p)) }
+        IsSame (polynomial_at (sum_of ts us) p)
+        (fraction_sum (polynomial_at ts p) (polynomial_at us p)) }
     ensures difference { (ts us : List Monomial) (p : Values) →
-        IsSame (polynomial_at (difference_of ts us) p) (fraction_difference (polynomial_at ts p) (polynomial_at us p)) }
+        IsSame (polynomial_at (difference_of ts us) p)
+        (fraction_difference (polynomial_at ts p) (polynomial_at us p)) }
     ensures product { (ts us : List Monomial) (p : Values) →
-        IsSame (polynomial_at (product_of ts us) p) (fraction_product (polynomial_at ts p) (polynomial_at us p)) }
+        IsSame (polynomial_at (product_of ts us) p)
+        (fraction_product (polynomial_at ts p) (polynomial_at us p)) }
     ensures multiple { (n : ℤ) (ts : List Monomial) (p : Values) →
         IsSame (polynomial_at (scaled n ts) p) (fraction_product (whole n) (polynomial_at ts p)) }
 {}
 
 /// A division by the content gives one polynomial, with the same sign at every point.
 pub fn primitive_keeps_signs()
-    ensures unique { (ts all r s : List Monomial) → IsPolynomialOf ts all → IsPrimitiveOf ts r → IsPrimitiveOf ts s → r ≡ s }
+    ensures unique { (ts all r s : List Monomial) → IsPolynomialOf ts all → IsPrimitiveOf ts r →
+        IsPrimitiveOf ts s → r ≡ s }
     ensures sign { (ts r : List Monomial) → IsPrimitiveOf ts r → HaveSameSign r ts }
 {}
 
@@ -53,20 +60,26 @@ pub fn canonical_keeps_or_turns_signs()
 
 /// What is left of a difference of products has the sign of that difference of the values.
 pub fn cross_has_the_sign()
-    ensures { (a b2 a2 b r : List Monomial) (p : Values) (s : Sign) → IsPrimitiveOf (cross_of a b2 a2 b) r →
-        HasSignAt p r s ↔ HasSign (fraction_difference (fraction_product (polynomial_at a p) (polynomial_at b2 p))
+    ensures { (a b2 a2 b r : List Monomial) (p : Values) (s : Sign) →
+        IsPrimitiveOf (cross_of a b2 a2 b) r →
+        HasSignAt p r s ↔
+        HasSign (fraction_difference (fraction_product (polynomial_at a p) (polynomial_at b2 p))
         (fraction_product (polynomial_at a2 p) (polynomial_at b p))) s }
 {}
 
-/// A restriction is free of the symbol, and has the polynomial's sign where the symbol has that value.
+/// A restriction is free of the symbol, and has the polynomial's sign at that value of it.
 pub fn restriction_keeps_signs()
-    ensures free { (x : ℕ) (q : Fraction) (ts r : List Monomial) → IsRestriction x q ts r → IsFreeOf x r }
-    ensures sign { (x : ℕ) (q : Fraction) (ts r : List Monomial) (p : Values) (s : Sign) → IsRestriction x q ts r → GivesValue x q p →
+    ensures free { (x : ℕ) (q : Fraction) (ts r : List Monomial) → IsRestriction x q ts r →
+        IsFreeOf x r }
+    ensures sign { (x : ℕ) (q : Fraction) (ts r : List Monomial) (p : Values) (s : Sign) →
+        IsRestriction x q ts r → GivesValue x q p →
         HasSignAt p r s ↔ HasSignAt p ts s }
 {}
 
 /// A polynomial that is split has the value of its slope times the symbol's, plus its base's.
 pub fn split_has_the_value()
     ensures { (x : ℕ) (ts a b : List Monomial) (p : Values) → IsSplit x ts a b →
-        IsSame (polynomial_at ts p) (fraction_sum (fraction_product (polynomial_at a p) (polynomial_at (symbol_of x) p)) (polynomial_at b p)) }
+        IsSame (polynomial_at ts p) (fraction_sum
+        (fraction_product (polynomial_at a p) (polynomial_at (symbol_of x) p))
+        (polynomial_at b p)) }
 {}

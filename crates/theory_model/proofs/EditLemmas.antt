@@ -50,7 +50,8 @@ without_key-identified key (l ∷ ls) all = by_test (is_key key (key_of l)) (wit
     by_test false rest = (all.0, rest)
 
 -- one operation keeps identifiers, and so do all
-put-identified : (n : ℕ) (new : Line) (ls ls' : List Line) (o : Option Name) → HasIdentifiers new → AllIdentified ls → edit.put_under n o new ls ≡ Ok ls' → AllIdentified ls'
+put-identified : (n : ℕ) (new : Line) (ls ls' : List Line) (o : Option Name) → HasIdentifiers new → AllIdentified ls →
+    edit.put_under n o new ls ≡ Ok ls' → AllIdentified ls'
 put-identified n new ls ls' None h all is = absurd (grind (arith, is))
 put-identified n new ls ls' (Some key) h all is =
     let same : with_line key new ls ≡ ls' = ok_same (with_line key new ls) ls' is in
@@ -97,18 +98,23 @@ pub edited-identified : (lines : List Numbered) (ops : List Op) (found : Vec (Bo
 edited-identified lines ops found all puts changed =
     by_change (changed_lines 1 ops (lines_alone lines)) refl changed
   where
-    by_change : (r : Result (List Line) edit.EditFault) → changed_lines 1 ops (lines_alone lines) ≡ r → AreChanged r (Ok found) → HaveIdentifiers (carried_from 1 (lent_lines found.items))
+    by_change : (r : Result (List Line) edit.EditFault) → changed_lines 1 ops (lines_alone lines) ≡ r → AreChanged r (Ok found) →
+        HaveIdentifiers (carried_from 1 (lent_lines found.items))
     by_change (Ok ls) is same =
-        carried-identified 1 (lent_lines found.items) (subst AllIdentified (sym same) (changed-identified 1 ops (lines_alone lines) ls (alone-identified lines all) puts is))
+        carried-identified 1 (lent_lines found.items) (subst AllIdentified (sym same)
+        (changed-identified 1 ops (lines_alone lines) ls (alone-identified lines all) puts is))
     by_change (Err refusal) is same = absurd same
 
 -- a fault of the changed lines is the fault of the edit
-pub edited-fault : (wanted : Result (List Line) edit.EditFault) (found : Vec (Bor source.Line) Global) (checked : List numbered.Numbered) (f : ModelFault) (g : EditFault)
-    → AreChanged wanted (Ok found) → lines_of checked ≡ carried_from 1 (lent_lines found.items) → IsChecked checked (Err f) → IsAfterFault f g → IsEdited wanted (Err g)
+pub edited-fault : (wanted : Result (List Line) edit.EditFault) (found : Vec (Bor source.Line) Global) (checked : List numbered.Numbered)
+    (f : ModelFault) (g : EditFault)
+    → AreChanged wanted (Ok found) → lines_of checked ≡ carried_from 1 (lent_lines found.items) → IsChecked checked (Err f) → IsAfterFault f g →
+    IsEdited wanted (Err g)
 edited-fault wanted found checked f Memory changed are fault after = tt
 edited-fault (Ok ls) found checked f (After g) changed are fault after =
     ⊎_elim (λ memory. absurd (after.1 memory))
-    (λ is. ap (λ (xs : List Line). model_fault (carried_from 1 xs)) (sym changed) ∙ ap model_fault (sym are) ∙ is ∙ ap (λ (h : ModelFault). Some (fault_of h)) (sym after.0)) fault
+    (λ is. ap (λ (xs : List Line). model_fault (carried_from 1 xs)) (sym changed) ∙ ap model_fault (sym are) ∙ is
+    ∙ ap (λ (h : ModelFault). Some (fault_of h)) (sym after.0)) fault
 edited-fault (Err refusal) found checked f (After g) changed are fault after = absurd changed
 edited-fault wanted found checked f (UnknownKey n) changed are fault after = absurd after
 edited-fault wanted found checked f (ModelLine n) changed are fault after = absurd after

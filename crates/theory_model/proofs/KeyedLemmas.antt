@@ -74,7 +74,8 @@ pub place_below : (q : Name) (ns : List Numbered) (i : ℕ) → place_of_key q n
 place_below q [] i h = grind (arith, h)
 place_below q (n ∷ ns) i h = by_test (is_key q (key_of n.line)) h (place_below q ns)
   where
-    by_test : (b : Bool) → cond b (Some 0) (option_map suc (place_of_key q ns)) ≡ Some i → ((j : ℕ) → place_of_key q ns ≡ Some j → j < length ns) → i < length (n ∷ ns)
+    by_test : (b : Bool) → cond b (Some 0) (option_map suc (place_of_key q ns)) ≡ Some i →
+        ((j : ℕ) → place_of_key q ns ≡ Some j → j < length ns) → i < length (n ∷ ns)
     by_test true k rest = grind (arith, k)
     by_test false k rest = let before = one_before (place_of_key q ns) i k in let below = rest before.0 before.1 in omega (arith, below, before.2)
 
@@ -93,7 +94,8 @@ key_kept : (q : Name) (above : List Numbered) (n : Numbered) → has_key q above
 key_kept q [] n h = absurd (grind (arith, h))
 key_kept q (m ∷ above) n h = by_test (is_key q (key_of m.line)) h (key_kept q above n)
   where
-    by_test : (b : Bool) → (b || has_key q above) ≡ true → (has_key q above ≡ true → has_key q (above ++ n ∷ []) ≡ true) → (b || has_key q (above ++ n ∷ [])) ≡ true
+    by_test : (b : Bool) → (b || has_key q above) ≡ true → (has_key q above ≡ true → has_key q (above ++ n ∷ []) ≡ true) →
+        (b || has_key q (above ++ n ∷ [])) ≡ true
     by_test true k rest = refl
     by_test false k rest = rest k
 
@@ -118,12 +120,14 @@ missing_below q lines above (n ∷ ns) h k =
     let below = missing_below q lines (above ++ n ∷ []) ns rest (key_kept q above n k) in
     by_test (is_key q (key_of n.line)) refl fresh below
   where
-    by_test : (b : Bool) → is_key q (key_of n.line) ≡ b → has_same_key (key_of n.line) above ≡ false → place_of_key q ns ≡ None → cond b (Some 0) (option_map suc (place_of_key q ns)) ≡ None
+    by_test : (b : Bool) → is_key q (key_of n.line) ≡ b → has_same_key (key_of n.line) above ≡ false → place_of_key q ns ≡ None →
+        cond b (Some 0) (option_map suc (place_of_key q ns)) ≡ None
     by_test true here fresh below = absurd (grind (arith, clash q above n.line k here, fresh))
     by_test false here fresh below = ap (λ (found : Option ℕ). option_map suc found) below
 
 -- where keys are distinct, a name is declared as the first line with that key says
-pub declared-found : (q : Name) (lines above ns : List Numbered) (i : ℕ) (d : Numbered) → AreFresh lines above ns → place_of_key q ns ≡ Some i → declared_in ns q ≡ declared_as (get_or ns i d).line
+pub declared-found : (q : Name) (lines above ns : List Numbered) (i : ℕ) (d : Numbered) → AreFresh lines above ns → place_of_key q ns ≡ Some i →
+    declared_in ns q ≡ declared_as (get_or ns i d).line
 declared-found q lines above [] i d h k = absurd (grind (arith, k))
 declared-found q lines above (n ∷ ns) i d h k =
     let rest = other_of_none (has_same_key (key_of n.line) above) n.at (first_that (has_fault KeyTwice lines) (above ++ n ∷ []) ns) h in
@@ -171,11 +175,13 @@ has_place q (n ∷ ns) = by_test (is_key q (key_of n.line)) (place_of_key q ns) 
     by_test false (Some i) h = h
 
 -- where the key of a line is held, it stands above; where it isn't, it doesn't
-pub same_above : (held : Name → Option ℕ) (above : List Numbered) → ((q : Name) → held q ≡ place_of_key q above) → (o : Option Name) → IsHeld held o → has_same_key o above ≡ true
+pub same_above : (held : Name → Option ℕ) (above : List Numbered) → ((q : Name) → held q ≡ place_of_key q above) → (o : Option Name) → IsHeld held o →
+    has_same_key o above ≡ true
 same_above held above known None h = absurd h
 same_above held above known (Some key) h = sym (has_place key above) ∙ ap is_some (sym (known key)) ∙ h
 
-pub new_above : (held : Name → Option ℕ) (above : List Numbered) → ((q : Name) → held q ≡ place_of_key q above) → (o : Option Name) → ¬ IsHeld held o → has_same_key o above ≡ false
+pub new_above : (held : Name → Option ℕ) (above : List Numbered) → ((q : Name) → held q ≡ place_of_key q above) → (o : Option Name) → ¬ IsHeld held o →
+    has_same_key o above ≡ false
 new_above held above known None h = refl
 new_above held above known (Some key) h = by_answer (has_key key above) refl
   where
@@ -184,7 +190,8 @@ new_above held above known (Some key) h = by_answer (has_key key above) refl
     by_answer false k = k
 
 -- the place of a key where one more line is added
-place_added : (q : Name) (above : List Numbered) (n : Numbered) → place_of_key q (above ++ n ∷ []) ≡ or_else (place_of_key q above) (cond {A = Option ℕ} (is_key q (key_of n.line)) (Some (length above)) None)
+place_added : (q : Name) (above : List Numbered) (n : Numbered) →
+    place_of_key q (above ++ n ∷ []) ≡ or_else (place_of_key q above) (cond {A = Option ℕ} (is_key q (key_of n.line)) (Some (length above)) None)
 place_added q [] n = by_test (is_key q (key_of n.line))
   where
     by_test : (b : Bool) → cond {A = Option ℕ} b (Some 0) None ≡ or_else None (cond {A = Option ℕ} b (Some 0) None)
@@ -193,7 +200,8 @@ place_added q [] n = by_test (is_key q (key_of n.line))
 place_added q (m ∷ above) n = by_test (is_key q (key_of m.line)) (place_of_key q above) (is_key q (key_of n.line)) (place_added q above n)
   where
     by_test : (b : Bool) (found : Option ℕ) (t : Bool) → place_of_key q (above ++ n ∷ []) ≡ or_else found (cond t (Some (length above)) None)
-        → cond b (Some 0) (option_map suc (place_of_key q (above ++ n ∷ []))) ≡ or_else (cond b (Some 0) (option_map suc found)) (cond t (Some (suc (length above))) None)
+        → cond b (Some 0) (option_map suc (place_of_key q (above ++ n ∷ []))) ≡ or_else (cond b (Some 0) (option_map suc found))
+        (cond t (Some (suc (length above))) None)
     by_test true found t h = refl
     by_test false None true h = ap (λ (x : Option ℕ). option_map suc x) h
     by_test false None false h = ap (λ (x : Option ℕ). option_map suc x) h
@@ -201,7 +209,8 @@ place_added q (m ∷ above) n = by_test (is_key q (key_of m.line)) (place_of_key
 
 -- a line whose key is new is held with its place
 pub places_added : (held held' : Name → Option ℕ) (above : List Numbered) (n : Numbered) → ((q : Name) → held q ≡ place_of_key q above)
-    → ¬ IsHeld held (key_of n.line) → ((q : Name) → held' q ≡ cond (is_key q (key_of n.line)) (Some (length above)) (held q)) → (q : Name) → held' q ≡ place_of_key q (above ++ n ∷ [])
+    → ¬ IsHeld held (key_of n.line) → ((q : Name) → held' q ≡ cond (is_key q (key_of n.line)) (Some (length above)) (held q)) → (q : Name) →
+    held' q ≡ place_of_key q (above ++ n ∷ [])
 places_added held held' above n known new changed q =
     changed q ∙ by_test (is_key q (key_of n.line)) refl ∙ sym (place_added q above n)
   where
@@ -217,7 +226,8 @@ places_added held held' above n known new changed q =
     or_nothing None = refl
     or_nothing (Some x) = refl
 
-    by_test : (b : Bool) → is_key q (key_of n.line) ≡ b → cond b (Some (length above)) (held q) ≡ or_else (place_of_key q above) (cond b (Some (length above)) None)
+    by_test : (b : Bool) → is_key q (key_of n.line) ≡ b →
+        cond b (Some (length above)) (held q) ≡ or_else (place_of_key q above) (cond b (Some (length above)) None)
     by_test true here =
         let fresh = is_new (key_of n.line) here (new_above held above known (key_of n.line) new) in
         let missing = nothing (place_of_key q above) (has_place q above ∙ fresh) in
@@ -234,11 +244,14 @@ pub first_passed : (lines above : List Numbered) (n : Numbered) (ns : List Numbe
 first_passed lines above n ns h = ap (λ t. cond t (Some n.at) (first_that (has_fault KeyTwice lines) (above ++ n ∷ []) ns)) h
 
 -- the next of some lines, with those above and below it
-pub above_next : (ls : List source.Numbered) (k : ℕ) (n : source.Numbered) → k < length ls → n ≡ get_or ls k n → lines_of (take (k + 1) ls) ≡ lines_of (take k ls) ++ numbered_of n ∷ []
+pub above_next : (ls : List source.Numbered) (k : ℕ) (n : source.Numbered) → k < length ls → n ≡ get_or ls k n →
+    lines_of (take (k + 1) ls) ≡ lines_of (take k ls) ++ numbered_of n ∷ []
 above_next ls k n h is =
-    ap lines_of (take_more ls k n h) ∙ map-append numbered_of (take k ls) (get_or ls k n ∷ []) ∙ ap (λ (m : source.Numbered). lines_of (take k ls) ++ numbered_of m ∷ []) (sym is)
+    ap lines_of (take_more ls k n h) ∙ map-append numbered_of (take k ls) (get_or ls k n ∷ [])
+    ∙ ap (λ (m : source.Numbered). lines_of (take k ls) ++ numbered_of m ∷ []) (sym is)
 
-pub below_next : (ls : List source.Numbered) (k : ℕ) (n : source.Numbered) → k < length ls → n ≡ get_or ls k n → lines_of (drop k ls) ≡ numbered_of n ∷ lines_of (drop (k + 1) ls)
+pub below_next : (ls : List source.Numbered) (k : ℕ) (n : source.Numbered) → k < length ls → n ≡ get_or ls k n →
+    lines_of (drop k ls) ≡ numbered_of n ∷ lines_of (drop (k + 1) ls)
 below_next ls k n h is =
     ap lines_of (drop_more ls k n h) ∙ ap (λ (m : source.Numbered). numbered_of m ∷ lines_of (drop (k + 1) ls)) (sym is)
 
@@ -246,7 +259,8 @@ place_of_next : (ls : List source.Numbered) (k : ℕ) → k < length ls → leng
 place_of_next ls k h = length-map (take k ls) numbered_of ∙ length-take-le k ls (omega (arith, h))
 
 -- the first line that is blamed, told from the lines above the next one
-pub keys_blamed : (ls : List source.Numbered) (k : ℕ) (n : source.Numbered) (held held' : Name → Option ℕ) (fault : KeysFault) → k < length ls → n ≡ get_or ls k n
+pub keys_blamed : (ls : List source.Numbered) (k : ℕ) (n : source.Numbered) (held held' : Name → Option ℕ) (fault : KeysFault) →
+    k < length ls → n ≡ get_or ls k n
     → ((q : Name) → held q ≡ place_of_key q (lines_of (take k ls)))
     → line_with KeyTwice (lines_of ls) ≡ first_that (has_fault KeyTwice (lines_of ls)) (lines_of (take k ls)) (lines_of (drop k ls))
     → HoldsKey held held' k (numbered_of n) (Err fault) → IsKeysFault (lines_of ls) fault
@@ -268,7 +282,8 @@ keys_step ls k n held held' h is known left found =
     let above = lines_of (take k ls) in
     let below = lines_of (drop (k + 1) ls) in
     let next = numbered_of n in
-    let placed = places_added held held' above next known found.0 (subst (λ (i : ℕ). (q : Name) → held' q ≡ cond (is_key q (key_of next.line)) (Some i) (held q)) (sym (place_of_next ls k h)) found.1) in (
+    let placed = places_added held held' above next known found.0
+    (subst (λ (i : ℕ). (q : Name) → held' q ≡ cond (is_key q (key_of next.line)) (Some i) (held q)) (sym (place_of_next ls k h)) found.1) in (
       λ (q : Name). placed q ∙ ap (place_of_key q) (sym (above_next ls k n h is)),
       left ∙ ap (first_that (has_fault KeyTwice (lines_of ls)) above) (below_next ls k n h is)
           ∙ first_passed (lines_of ls) above next below (new_above held above known (key_of next.line) found.0)

@@ -85,7 +85,8 @@ fn changed_lines<'a>(
     lines: &'a [Numbered],
     ops: &'a [Op],
 ) -> Result<Vec<&'a Line>, EditFault>
-    ensures { AreChanged (edit.changed_lines 1 (ops_of ops.now) (lines_alone (lines_of lines.now))) result }
+    ensures { AreChanged
+        (edit.changed_lines 1 (ops_of ops.now) (lines_alone (lines_of lines.now))) result }
 {
     let mut changed = match lent(alloc, lines) {
         Ok(changed) => changed,

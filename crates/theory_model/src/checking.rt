@@ -19,7 +19,7 @@ use theory_syntax::{Line, Lines, Numbered};
 /// The greatest number of lines.
 const MOST_LINES: usize = 200;
 
-/// The model of exactly these lines with their numbers, or the first kind of fault that applies to them.
+/// The model of exactly these lines with their numbers, or the first kind of fault of them.
 pub fn check(alloc: Global, lines: &[Numbered]) -> Result<Model, ModelFault>
     requires { HaveIdentifiers (lines_of lines.now) }
     ensures { IsChecked lines.now result }
@@ -138,7 +138,8 @@ fn lines_fault(beyond: Option<u32>) -> Option<ModelFault>
 
 /// The fault of this kind, where a line has one, and else that of a later kind.
 fn first_of(kind: ModelKind, first: Option<u32>, later: Option<ModelFault>) -> Option<ModelFault>
-    ensures { option_map fault_of result ≡ or_else (fault_at kind first) (option_map fault_of later) }
+    ensures { option_map fault_of result
+        ≡ or_else (fault_at kind first) (option_map fault_of later) }
 {
     match first {
         Some(at) => Some(ModelFault { kind, at }),

@@ -56,7 +56,8 @@ fn puts_identifiers(op: &Op) -> bool
 }
 
 fn has_identifiers(line: &Line) -> bool
-    ensures { MatchBool result (HasIdentifiers (line_of line.now)) (¬ HasIdentifiers (line_of line.now)) }
+    ensures { MatchBool result (HasIdentifiers (line_of line.now))
+        (¬ HasIdentifiers (line_of line.now)) }
 {
     match line {
         Line::Model(name) => is_identifier(name),

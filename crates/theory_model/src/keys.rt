@@ -86,7 +86,8 @@ impl<'a> Keys<'a> {
 
     /// What a name is declared as.
     pub(crate) fn declared(&self, name: &[u8]) -> Option<Declared<'a>>
-        ensures { option_map declared_of result ≡ plain.declared_in (lines_of self.now.lines.now) name.now }
+        ensures { option_map declared_of result
+            ≡ plain.declared_in (lines_of self.now.lines.now) name.now }
     {
         match self.places.get(name) {
             Some(place) => declaration_at(self.lines, *place),
@@ -110,7 +111,8 @@ fn hold<'a>(
     k: usize,
     numbered: &'a Numbered,
 ) -> Result<(), KeysFault>
-    ensures { HoldsKey (place_in places.old) (place_in places.new) k (numbered_of numbered.now) result }
+    ensures { HoldsKey (place_in places.old) (place_in places.new) k
+        (numbered_of numbered.now) result }
 {
     match key_of(&numbered.line) {
         None => Ok(()),

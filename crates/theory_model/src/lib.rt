@@ -1,7 +1,8 @@
-//! Checked models: lists of lines to which no kind of fault applies, their listed symbols, and edits.
+//! Checked models: lists of lines to which no kind of fault applies, their listed symbols, and
+//! edits.
 //!
-//! Contracts see a `Model` as its numbered lines, in the plain trees of `theory_meaning`; that they are
-//! checked is kept in the type. Read `check` first.
+//! Contracts see a `Model` as its numbered lines, in the plain trees of `theory_meaning`; that they
+//! are checked is kept in the type. Read `check` first.
 #![tactic(auto)]
 
 mod changing;

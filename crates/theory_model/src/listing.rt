@@ -113,7 +113,8 @@ fn list_function(
     arguments: &[Name],
     names: &mut Names,
 ) -> Result<(), NoMemory>
-    ensures { OnOk result (names.new ≡ names.old ++ listed_by false (function name.now arguments.now)) }
+    ensures { OnOk result
+        (names.new ≡ names.old ++ listed_by false (function name.now arguments.now)) }
 {
     names.push(name.copy(alloc)?)?;
     for argument in arguments {

@@ -18,7 +18,7 @@ use theory_syntax::{Claim, Expr};
 pub(crate) struct Findings {
     /// A name is declared nowhere.
     pub(crate) unknown: bool,
-    /// A derivative isn't that of a variable, or a slope not that of a function in one of its arguments.
+    /// A derivative of what is no variable, or a slope in what is no argument of a function.
     pub(crate) unfit: bool,
     /// A derivative stands there.
     pub(crate) derivative: bool,
@@ -42,7 +42,8 @@ impl Findings {
     pub(crate) fn join(self, other: Findings) -> Findings
         ensures both { result ≡ found_of_both self other }
         ensures all { (lines : List text.Numbered) (ss ts : List (List ℕ)) →
-            self ≡ found_in lines ss → other ≡ found_in lines ts → result ≡ found_in lines (ss ++ ts) }
+            self ≡ found_in lines ss → other ≡ found_in lines ts →
+            result ≡ found_in lines (ss ++ ts) }
     {
         Findings {
             unknown: self.unknown || other.unknown,
@@ -107,7 +108,8 @@ fn derivative_findings(keys: &Keys, name: &[u8]) -> Findings
 }
 
 fn slope_findings(keys: &Keys, function: &[u8], argument: &[u8]) -> Findings
-    ensures { result ≡ found_of_use (lines_of keys.now.lines.now) (plain.slope function.now argument.now) }
+    ensures { result ≡ found_of_use (lines_of keys.now.lines.now)
+        (plain.slope function.now argument.now) }
 {
     let declared = keys.declared(function);
     Findings {
@@ -120,7 +122,8 @@ fn slope_findings(keys: &Keys, function: &[u8], argument: &[u8]) -> Findings
 
 /// Whether it is a function with this argument.
 fn has_argument(declared: Option<Declared<'_>>, argument: &[u8]) -> bool
-    ensures { result ≡ plain_fault.has_argument argument.now (option_map declared_of declared.entry) }
+    ensures { result
+        ≡ plain_fault.has_argument argument.now (option_map declared_of declared.entry) }
 {
     match declared {
         Some(Declared::Function(arguments)) => is_among(argument, arguments.as_slice()),
@@ -158,7 +161,8 @@ pub(crate) fn expr_findings(keys: &Keys, expr: &Expr) -> Findings
 /// What is wrong with the uses of names in a claim.
 #[cycle(claim_findings)]
 pub(crate) fn claim_findings(keys: &Keys, claim: &Claim) -> Findings
-    ensures { result ≡ found_in (lines_of keys.now.lines.now) (symbols_of_claim (claim_of claim.now)) }
+    ensures { result ≡ found_in (lines_of keys.now.lines.now)
+        (symbols_of_claim (claim_of claim.now)) }
 {
     match claim {
         Claim::True => Findings::none(),
@@ -174,7 +178,8 @@ pub(crate) fn claim_findings(keys: &Keys, claim: &Claim) -> Findings
 
 #[cycle(claim_findings)]
 fn all_findings(keys: &Keys, claims: &[Claim]) -> Findings
-    ensures { result ≡ found_in (lines_of keys.now.lines.now) (symbols_of_claims (members_of claims.now)) }
+    ensures { result ≡ found_in (lines_of keys.now.lines.now)
+        (symbols_of_claims (members_of claims.now)) }
 {
     let mut all = Findings::none();
     for claim in claims {

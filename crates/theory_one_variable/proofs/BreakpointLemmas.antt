@@ -64,7 +64,8 @@ inserted-keeps r (b ∷ bs) c h =
     ⊎_elim (λ k. subst (λ (cs : List Fraction). Contains cs c) (sym k.1) (Contains-rest r c (b ∷ bs) h))
     (⊎_elim (λ k. subst (λ (cs : List Fraction). Contains cs c) (sym k.1) h)
     (λ k. subst (λ (cs : List Fraction). Contains cs c) (sym k.1)
-    (⊎_elim (λ e. subst (λ (d : Fraction). Contains (b ∷ inserted r bs) d) e (Contains-first b (inserted r bs))) (λ i. Contains-rest b c (inserted r bs) (inserted-keeps r bs c i)) (first_or_rest b c bs h))))
+    (⊎_elim (λ e. subst (λ (d : Fraction). Contains (b ∷ inserted r bs) d) e (Contains-first b (inserted r bs)))
+    (λ i. Contains-rest b c (inserted r bs) (inserted-keeps r bs c i)) (first_or_rest b c bs h))))
     (inserted_at r b bs).cases
 
 -- the root is there, or one that is the same number
@@ -96,7 +97,8 @@ with_none done a old h n = record {
       ⊎_elim (λ j. h.all_roots e q j root) (λ same. absurd (n q (subst (λ (f : Atom). IsRootOf f q) (sym same) root))) (Contains-push_cases done a e i);
 }
 
-with_some : (done : List Atom) (a : Atom) (r : Fraction) (old : List Fraction) → AreRootsOf done old → HasRoot a (Some r) → AreRootsOf (done ++ a ∷ []) (inserted r old)
+with_some : (done : List Atom) (a : Atom) (r : Fraction) (old : List Fraction) → AreRootsOf done old → HasRoot a (Some r) →
+    AreRootsOf (done ++ a ∷ []) (inserted r old)
 with_some done a r old h s = record {
   ascending = inserted-ascending r old h.ascending;
   only_roots = λ b i.
@@ -113,7 +115,8 @@ one_more_root done a old new h (None, root, same) = subst (λ (bs : List Fractio
 one_more_root done a old new h (Some r, root, same) = subst (λ (bs : List Fraction). AreRootsOf (done ++ a ∷ []) bs) (sym same) (with_some done a r old h root)
 
 -- the comparisons from one row on
-taken : (rows : List Row) (i : ℕ) (row : Row) → i < length rows → row ≡ get_or rows i row → assumption_atoms (drop i rows) ≡ atoms_by_role row.role row.atom (assumption_atoms (drop (i + 1) rows))
+taken : (rows : List Row) (i : ℕ) (row : Row) → i < length rows → row ≡ get_or rows i row →
+    assumption_atoms (drop i rows) ≡ atoms_by_role row.role row.atom (assumption_atoms (drop (i + 1) rows))
 taken rows i row within is =
     rw (add-one, drop-cons rows i row) (ap (λ (r : Row). atoms_by_role r.role r.atom (assumption_atoms (drop (suc i) rows))) (sym is))
 
@@ -125,8 +128,12 @@ pub next_assumption : (rows : List Row) (i : ℕ) (row : Row) (old new : List Fr
     AddsRoot row.atom old new → Goes rows i old → Goes rows (i + 1) new
 next_assumption rows i row old new within is role adds (done, split, roots) =
     let here : assumption_atoms (drop i rows) ≡ row.atom ∷ assumption_atoms (drop (i + 1) rows) =
-    taken rows i row within is ∙ ap (λ (r : Role). atoms_by_role r row.atom (assumption_atoms (drop (i + 1) rows))) role in
-    (done ++ row.atom ∷ [], append_assoc done (row.atom ∷ []) (assumption_atoms (drop (i + 1) rows)) ∙ ap (λ (atoms : List Atom). done ++ atoms) (sym here) ∙ split, one_more_root done row.atom old new roots adds)
+    taken rows i row within is ∙ ap (λ (r : Role). atoms_by_role r row.atom (assumption_atoms (drop (i + 1) rows))) role in (
+      done ++ row.atom ∷ [],
+      append_assoc done (row.atom ∷ []) (assumption_atoms (drop (i + 1) rows)) ∙ ap (λ (atoms : List Atom). done ++ atoms) (sym here)
+          ∙ split,
+      one_more_root done row.atom old new roots adds,
+    )
 
 pub next_claim : (rows : List Row) (i : ℕ) (row : Row) (old : List Fraction) → i < length rows → row ≡ get_or rows i row → row.role ≡ Asked →
     Goes rows i old → Goes rows (i + 1) old
@@ -136,7 +143,8 @@ next_claim rows i row old within is role (done, split, roots) =
     (done, ap (λ (atoms : List Atom). done ++ atoms) (sym here) ∙ split, roots)
 
 -- the last comparison, behind all assumptions
-pub last_root : (rows : List Row) (i : ℕ) (a : Atom) (old new : List Fraction) → length rows ≤ i → AddsRoot a old new → Goes rows i old → AreRootsOf (assumption_atoms rows ++ a ∷ []) new
+pub last_root : (rows : List Row) (i : ℕ) (a : Atom) (old new : List Fraction) → length rows ≤ i → AddsRoot a old new → Goes rows i old →
+    AreRootsOf (assumption_atoms rows ++ a ∷ []) new
 last_root rows i a old new end adds (done, split, roots) =
     let all : done ≡ assumption_atoms rows = sym (append-nil done) ∙ ap (λ (rs : List Row). done ++ assumption_atoms rs) (sym (drop_all i rows end)) ∙ split in
     subst (λ (atoms : List Atom). AreRootsOf (atoms ++ a ∷ []) new) all (one_more_root done a old new roots adds)

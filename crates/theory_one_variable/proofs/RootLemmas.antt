@@ -84,9 +84,11 @@ has_root false (Number n) rel true Variable =
     ((sym (twice n), λ h. not_both' n (sym (h (whole (pos 0)))) (sym (h (whole (pos 1))))), λ q h. turned q n (sym h.0))
 has_root b (Number n) rel c (Number m) = λ q h. h.1 (λ r. h.0)
 
-pub root_is_right : (a : Atom) (l r : Term) (b : Bool) → a.left.term ≡ l → a.right.term ≡ r → b ≡ not (beq a.left.negated a.right.negated) → HasRoot a (root_of b l r)
+pub root_is_right : (a : Atom) (l r : Term) (b : Bool) → a.left.term ≡ l → a.right.term ≡ r → b ≡ not (beq a.left.negated a.right.negated) →
+    HasRoot a (root_of b l r)
 root_is_right a l r b left right turned =
-    let at_terms : HasRoot a (root_of (not (beq a.left.negated a.right.negated)) a.left.term a.right.term) = has_root a.left.negated a.left.term a.rel a.right.negated a.right.term in
+    let at_terms : HasRoot a (root_of (not (beq a.left.negated a.right.negated)) a.left.term a.right.term) = has_root a.left.negated a.left.term a.rel
+    a.right.negated a.right.term in
     let at_left = subst (λ (t : Term). HasRoot a (root_of (not (beq a.left.negated a.right.negated)) t a.right.term)) left at_terms in
     let at_right = subst (λ (t : Term). HasRoot a (root_of (not (beq a.left.negated a.right.negated)) l t)) right at_left in
     subst (λ (t : Bool). HasRoot a (root_of t l r)) (sym turned) at_right

@@ -50,7 +50,8 @@ side_here x q s = signed_here x q s.negated s.term
 
 -- a comparison has its truth
 pub atom_here : (x : Name) (q : Fraction) (a : Atom) → truth_of (atom_claim x a) (only_at x q) ≡ atom_test a q
-atom_here x q a = ap (λ (v : Fraction). holds a.rel v (value_of (side_expr x a.right) (only_at x q))) (side_here x q a.left) ∙ ap (holds a.rel (side_value a.left q)) (side_here x q a.right)
+atom_here x q a = ap (λ (v : Fraction). holds a.rel v (value_of (side_expr x a.right) (only_at x q))) (side_here x q a.left)
+    ∙ ap (holds a.rel (side_value a.left q)) (side_here x q a.right)
 
 and_assoc : (a b c : Bool) → (a && (b && c)) ≡ ((a && b) && c)
 and_assoc true b c = refl
@@ -87,7 +88,8 @@ is_false false = refl
 pub sentence_here : (x : Name) (q : Fraction) (rows : List Row) (a : Atom) (wanted : Bool) →
     meets (sentence x rows a wanted) (only_at x q) ≡ (assumptions_test rows q && beq (atom_test a q) wanted)
 sentence_here x q rows a true = rows_here x q rows (atom_claim x a) (beq (atom_test a q) true) (atom_here x q a ∙ is_true (atom_test a q))
-sentence_here x q rows a false = rows_here x q rows (plain.negation (atom_claim x a)) (beq (atom_test a q) false) (ap not (atom_here x q a) ∙ is_false (atom_test a q))
+sentence_here x q rows a false = rows_here x q rows (plain.negation (atom_claim x a)) (beq (atom_test a q) false)
+    (ap not (atom_here x q a) ∙ is_false (atom_test a q))
 
 -- the two sides of a comparison
 abbrev pub sides_as : Name → Atom → plain.Expr × plain.Expr
@@ -111,7 +113,8 @@ rows_sides x (row ∷ rows) a last h =
     ∙ ap (map (sides_as x)) (by_role_append row.role row.atom (assumption_atoms rows) (a ∷ []))
 
 -- the sentence compares the sides of its comparisons
-pub sentence_sides : (x : Name) (rows : List Row) (a : Atom) (wanted : Bool) → sides_of (sentence x rows a wanted) ≡ map (sides_as x) (assumption_atoms rows ++ a ∷ [])
+pub sentence_sides : (x : Name) (rows : List Row) (a : Atom) (wanted : Bool) →
+    sides_of (sentence x rows a wanted) ≡ map (sides_as x) (assumption_atoms rows ++ a ∷ [])
 sentence_sides x rows a true = rows_sides x rows a (atom_claim x a) refl
 sentence_sides x rows a false = rows_sides x rows a (plain.negation (atom_claim x a)) refl
 
@@ -119,24 +122,28 @@ sentence_sides x rows a false = rows_sides x rows a (plain.negation (atom_claim 
 nothing : {X : Type 0} (y : X) → Contains {X = X} [] y → ⊥
 nothing y n = let m = n.1 in absurd (omega arith)
 
-mapped : (x : Name) (atoms : List Atom) (sides : plain.Expr × plain.Expr) → Contains (map (sides_as x) atoms) sides → (a : Atom) × Contains atoms a × (sides_as x a ≡ sides)
+mapped : (x : Name) (atoms : List Atom) (sides : plain.Expr × plain.Expr) → Contains (map (sides_as x) atoms) sides → (a : Atom) × Contains atoms a ×
+    (sides_as x a ≡ sides)
 mapped x [] sides h = absurd (nothing sides h)
 mapped x (a ∷ atoms) sides h =
-    ⊎_elim (λ k. ⊎_elim (λ n. absurd (nothing sides n)) (λ e. (a, Contains-append_left (a ∷ []) atoms a (Contains-push [] a), e)) (Contains-push_cases [] (sides_as x a) sides k))
+    ⊎_elim (λ k. ⊎_elim (λ n. absurd (nothing sides n)) (λ e. (a, Contains-append_left (a ∷ []) atoms a (Contains-push [] a), e))
+    (Contains-push_cases [] (sides_as x a) sides k))
     (λ k. let r = mapped x atoms sides k in (r.0, Contains-append_right (a ∷ []) atoms r.0 r.1, r.2))
     (Contains-append_cases (sides_as x a ∷ []) (map (sides_as x) atoms) sides h)
 
 among : (x : Name) (atoms : List Atom) (a : Atom) → Contains atoms a → Contains (map (sides_as x) atoms) (sides_as x a)
 among x [] a h = absurd (nothing a h)
 among x (b ∷ atoms) a h =
-    ⊎_elim (λ k. ⊎_elim (λ n. absurd (nothing a n)) (λ e. subst (λ (c : Atom). Contains (map (sides_as x) (b ∷ atoms)) (sides_as x c)) e (Contains-append_left (sides_as x b ∷ []) (map (sides_as x) atoms) (sides_as x b) (Contains-push [] (sides_as x b)))) (Contains-push_cases [] b a k))
+    ⊎_elim (λ k. ⊎_elim (λ n. absurd (nothing a n)) (λ e. subst (λ (c : Atom). Contains (map (sides_as x) (b ∷ atoms)) (sides_as x c)) e
+    (Contains-append_left (sides_as x b ∷ []) (map (sides_as x) atoms) (sides_as x b) (Contains-push [] (sides_as x b)))) (Contains-push_cases [] b a k))
     (λ k. Contains-append_right (sides_as x b ∷ []) (map (sides_as x) atoms) (sides_as x a) (among x atoms a k))
     (Contains-append_cases (b ∷ []) atoms a h)
 
 -- the two sides are equal at a value as the comparison says
 equal_here : (x : Name) (a : Atom) (q : Fraction) → AreEqualAt x (sides_as x a) q ≡ AreEqualWhere a q
 equal_here x a q =
-    ap (λ (v : Fraction). IsSame v (value_of (side_expr x a.right) (only_at x q))) (side_here x q a.left) ∙ ap (λ (v : Fraction). IsSame (side_value a.left q) v) (side_here x q a.right)
+    ap (λ (v : Fraction). IsSame v (value_of (side_expr x a.right) (only_at x q))) (side_here x q a.left)
+    ∙ ap (λ (v : Fraction). IsSame (side_value a.left q) v) (side_here x q a.right)
 
 to_sides : (x : Name) (a : Atom) (q : Fraction) → AreEqualWhere a q → AreEqualAt x (sides_as x a) q
 to_sides x a q h = subst (λ (P : Type 0). P) (sym (equal_here x a q)) h
@@ -151,7 +158,8 @@ root_to x a q h = (to_sides x a q h.0, λ all. h.1 (λ r. from_sides x a r (all 
 root_from : (x : Name) (a : Atom) (q : Fraction) → IsRoot x (sides_as x a) q → IsRootOf a q
 root_from x a q h = (from_sides x a q h.0, λ all. h.1 (λ r. to_sides x a r (all r)))
 
-breakpoints_here : (x : Name) (claims : List plain.Claim) (atoms : List Atom) (bs : List Fraction) → sides_of claims ≡ map (sides_as x) atoms → AreRootsOf atoms bs → AreBreakpoints x claims bs
+breakpoints_here : (x : Name) (claims : List plain.Claim) (atoms : List Atom) (bs : List Fraction) → sides_of claims ≡ map (sides_as x) atoms →
+    AreRootsOf atoms bs → AreBreakpoints x claims bs
 breakpoints_here x claims atoms bs same h = record {
   ascending = h.ascending;
   only_roots = λ b i. let r = h.only_roots b i in
@@ -169,12 +177,20 @@ find_alike p r (q ∷ qs) h =
 
 -- the half of the first value that meets the claims is the written one
 pub half_is_written : (x : Name) (rows : List Row) (a : Atom) (wanted : Bool) (bs cs : List Fraction) (first : Option Fraction) (h : half.Half) →
-    AreRootsOf (assumption_atoms rows ++ a ∷ []) bs → AreCandidates bs cs → first ≡ find (λ q. assumptions_test rows q && beq (atom_test a q) wanted) cs → IsHalfAt x first h →
+    AreRootsOf (assumption_atoms rows ++ a ∷ []) bs → AreCandidates bs cs → first ≡ find (λ q. assumptions_test rows q && beq (atom_test a q) wanted) cs →
+    IsHalfAt x first h →
     IsWrittenHalf x (sentence x rows a wanted) h
 half_is_written x rows a wanted bs cs first h roots tried found is =
     let written : first ≡ first_that_meets x (sentence x rows a wanted) cs =
-    found ∙ find_alike (λ q. assumptions_test rows q && beq (atom_test a q) wanted) (λ q. meets (sentence x rows a wanted) (only_at x q)) cs (λ q. sym (sentence_here x q rows a wanted)) in
-    (bs, cs, breakpoints_here x (sentence x rows a wanted) (assumption_atoms rows ++ a ∷ []) bs (sentence_sides x rows a wanted) roots, tried, subst (λ (o : Option Fraction). IsHalfAt x o h) written is)
+    found ∙ find_alike (λ q. assumptions_test rows q && beq (atom_test a q) wanted) (λ q. meets (sentence x rows a wanted) (only_at x q)) cs
+    (λ q. sym (sentence_here x q rows a wanted)) in (
+      bs,
+      cs,
+      breakpoints_here x (sentence x rows a wanted) (assumption_atoms rows ++ a ∷ []) bs (sentence_sides x rows a wanted) roots,
+      tried,
+      subst
+          (λ (o : Option Fraction). IsHalfAt x o h) written is,
+    )
 
 -- a point that was given the value in lowest terms
 pub found_is : (x name : Name) (q v : Fraction) (old p : Point) → name ≡ x → SetsValue old p name v → IsKept v → IsSame v q → IsFoundAt x q p
@@ -197,14 +213,16 @@ signed_is_affine x false t = term_is_affine x t
 
 pub sentence_is_affine : (x : Name) (rows : List Row) (a : Atom) (wanted : Bool) → AreAffine x (sentence x rows a wanted)
 sentence_is_affine x rows a wanted sides i =
-    let m = mapped x (assumption_atoms rows ++ a ∷ []) sides (subst (λ (ss : List (plain.Expr × plain.Expr)). Contains ss sides) (sentence_sides x rows a wanted) i) in
+    let m = mapped x (assumption_atoms rows ++ a ∷ []) sides
+    (subst (λ (ss : List (plain.Expr × plain.Expr)). Contains ss sides) (sentence_sides x rows a wanted) i) in
     let b : Atom = m.0 in (
       subst (λ (s : plain.Expr × plain.Expr). IsAffine x s.0) m.2 (signed_is_affine x b.left.negated b.left.term),
       subst (λ (s : plain.Expr × plain.Expr). IsAffine x s.1) m.2 (signed_is_affine x b.right.negated b.right.term),
     )
 
 -- a written half is right, and isn't left open
-pub half_is_right : (x : Name) (rows : List Row) (a : Atom) (wanted : Bool) (h : half.Half) → IsWrittenHalf x (sentence x rows a wanted) h → half.IsRightHalf (sentence x rows a wanted) h
+pub half_is_right : (x : Name) (rows : List Row) (a : Atom) (wanted : Bool) (h : half.Half) → IsWrittenHalf x (sentence x rows a wanted) h →
+    half.IsRightHalf (sentence x rows a wanted) h
 half_is_right x rows a wanted h written = written_halves_are_right x (sentence x rows a wanted) h (sentence_is_affine x rows a wanted) written
 
 closed_at : (x : Name) (o : Option Fraction) (h : half.Half) → IsHalfAt x o h → IsClosedHalf h

@@ -29,16 +29,19 @@ record Neighbours (bs : List Fraction) (j : ℕ) (b c : Fraction) : Type 0 where
   second : c ≡ get_or bs (j + 1) c
 
 two_ahead : (bs : List Fraction) (j : ℕ) (b c : Fraction) → Neighbours bs j b c → drop j bs ≡ b ∷ c ∷ drop (j + 1 + 1) bs
-two_ahead bs j b c n = let w = n.within in let low : j < length bs = omega arith in one_ahead bs j b low n.first ∙ ap (λ (rest : List Fraction). b ∷ rest) (one_ahead bs (j + 1) c n.within n.second)
+two_ahead bs j b c n = let w = n.within in let low : j < length bs = omega arith in
+    one_ahead bs j b low n.first ∙ ap (λ (rest : List Fraction). b ∷ rest) (one_ahead bs (j + 1) c n.within n.second)
 
 -- neighbours in an ascending list
-pub middle_fits : (bs old new : List Fraction) (k i : ℕ) (b c : Fraction) → i + 1 ≡ k → k < length bs → b ≡ get_or bs i b → c ≡ get_or bs k c → AddedBefore bs old new k → IsBelow b c
+pub middle_fits : (bs old new : List Fraction) (k i : ℕ) (b c : Fraction) → i + 1 ≡ k → k < length bs → b ≡ get_or bs i b → c ≡ get_or bs k c →
+    AddedBefore bs old new k → IsBelow b c
 middle_fits bs old new k i b c place within first second a =
     let same : i ≡ a.before = (let p = a.place in omega arith) in
     let here : Neighbours bs a.before b c = neighbours bs k i a.before b c place same within first second in
     (subst IsAscending (two_ahead bs a.before b c here) a.ascending).0
   where
-    neighbours : (bs : List Fraction) (k i j : ℕ) (b c : Fraction) → i + 1 ≡ k → i ≡ j → k < length bs → b ≡ get_or bs i b → c ≡ get_or bs k c → Neighbours bs j b c
+    neighbours : (bs : List Fraction) (k i j : ℕ) (b c : Fraction) → i + 1 ≡ k → i ≡ j → k < length bs → b ≡ get_or bs i b →
+        c ≡ get_or bs k c → Neighbours bs j b c
     neighbours bs k i j b c place same within first second = record {
       within = omega arith;
       first = subst (λ (n : ℕ). b ≡ get_or bs n b) same first;
@@ -46,14 +49,16 @@ middle_fits bs old new k i b c place within first second a =
     }
 
 -- one more middle
-pub middle_added : (bs old new newer : List Fraction) (k i : ℕ) (b c m : Fraction) → i + 1 ≡ k → k < length bs → b ≡ get_or bs i b → c ≡ get_or bs k c → IsSimplestBetween b c m →
+pub middle_added : (bs old new newer : List Fraction) (k i : ℕ) (b c m : Fraction) → i + 1 ≡ k → k < length bs → b ≡ get_or bs i b → c ≡ get_or bs k c →
+    IsSimplestBetween b c m →
     newer ≡ new ++ m ∷ [] → AddedBefore bs old new k → AddedBefore bs old newer (k + 1)
 middle_added bs old new newer k i b c m place within first second simplest adds a =
     let p : k ≡ a.before + 1 = a.place in
     let inside : a.before + 1 < length bs = omega arith in
     let first_is : b ≡ get_or bs a.before b = subst (λ (n : ℕ). b ≡ get_or bs n b) (let e : i ≡ a.before = omega arith in e) first in
     let second_is : c ≡ get_or bs (a.before + 1) c = subst (λ (n : ℕ). c ≡ get_or bs n c) p second in
-    let both : drop a.before bs ≡ b ∷ c ∷ drop (a.before + 1 + 1) bs = two_ahead bs a.before b c (record { within = inside; first = first_is; second = second_is }) in
+    let both : drop a.before bs ≡ b ∷ c ∷ drop (a.before + 1 + 1) bs = two_ahead bs a.before b c
+    (record { within = inside; first = first_is; second = second_is }) in
     let next : drop (a.before + 1) bs ≡ c ∷ drop (a.before + 1 + 1) bs = one_ahead bs (a.before + 1) c inside second_is in
     record {
       before = a.before + 1;
@@ -62,7 +67,8 @@ middle_added bs old new newer k i b c m place within first second simplest adds 
       adds = adds ∙ ap (λ (l : List Fraction). l ++ m ∷ []) a.adds ∙ append_assoc old a.middles (m ∷ []);
       ascending = subst IsAscending (sym next) (subst IsAscending both a.ascending).1;
       goes_on = λ rest h.
-          let here : AreMiddles (drop a.before bs) (m ∷ rest) = subst (λ (l : List Fraction). AreMiddles l (m ∷ rest)) (sym both) (simplest, subst (λ (l : List Fraction). AreMiddles l rest) next h) in
+          let here : AreMiddles (drop a.before bs) (m ∷ rest) = subst (λ (l : List Fraction). AreMiddles l (m ∷ rest)) (sym both)
+          (simplest, subst (λ (l : List Fraction). AreMiddles l rest) next h) in
           subst (λ (l : List Fraction). AreMiddles bs l) (sym (append_assoc a.middles (m ∷ []) rest)) (a.goes_on (m ∷ rest) here);
     }
 
@@ -83,7 +89,8 @@ last_is : (b d : Fraction) (bs : List Fraction) → last_of b bs ≡ get_or (b �
 last_is b d [] = refl
 last_is b d (c ∷ bs) = last_is c d bs
 
-pub ends_added : (bs old newer newest : List Fraction) (first last : Fraction) (n m : ℤ) → 0 < length bs → first ≡ get_or bs 0 first → last ≡ get_or bs (length bs - 1) last →
+pub ends_added : (bs old newer newest : List Fraction) (first last : Fraction) (n m : ℤ) → 0 < length bs → first ≡ get_or bs 0 first →
+    last ≡ get_or bs (length bs - 1) last →
     IsWholeBelow first n → IsWholeAbove last m → newer ≡ old ++ whole n ∷ [] → newest ≡ newer ++ whole m ∷ [] → AddsEnds bs old newest
 ends_added [] old newer newest first last n m some is_first is_last under over adds more = absurd (omega arith)
 ends_added (b ∷ bs) old newer newest first last n m some is_first is_last under over adds more =

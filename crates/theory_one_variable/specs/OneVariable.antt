@@ -21,6 +21,7 @@ IsRowOver x (assume label (atom u rel v)) = IsSideOver x u × IsSideOver x v
 IsRowOver x (claim label None (atom u rel v)) = IsSideOver x u × IsSideOver x v
 IsRowOver x _ = ⊥
 
+-- so it is of each of the lines
 abbrev pub AreRowsOver : Name → List Line → Type 0
 AreRowsOver x [] = Unit {0}
 AreRowsOver x (line ∷ lines) = IsRowOver x line × AreRowsOver x lines

@@ -47,11 +47,12 @@ abbrev pub IsPlace : Fraction → List Fraction → Place → Type 0
 IsPlace r bs There = inserted r bs ≡ bs
 IsPlace r bs (Before k) = (k ≤ length bs) × (inserted r bs ≡ insert bs k r)
 
--- the comparisons of the assumptions
+-- a comparison counts where its row is an assumption
 abbrev pub atoms_by_role : Role → Atom → List Atom → List Atom
 atoms_by_role role.Assumption a atoms = a ∷ atoms
 atoms_by_role role.Claim a atoms = atoms
 
+-- the comparisons of the assumptions
 abbrev pub assumption_atoms : List Row → List Atom
 assumption_atoms [] = []
 assumption_atoms (row ∷ rows) = atoms_by_role row.role row.atom (assumption_atoms rows)

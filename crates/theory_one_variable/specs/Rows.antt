@@ -16,9 +16,11 @@ abbrev pub term_expr : Name → Term → plain.Expr
 term_expr x Variable = plain.symbol x
 term_expr x (Number q) = plain.number q
 
+-- a side over the variable x
 abbrev pub side_expr : Name → Side → plain.Expr
 side_expr x s = if s.negated then plain.opposite (term_expr x s.term) else term_expr x s.term
 
+-- a comparison over the variable x
 abbrev pub atom_claim : Name → Atom → plain.Claim
 atom_claim x a = plain.atom (side_expr x a.left) a.rel (side_expr x a.right)
 
@@ -27,6 +29,7 @@ abbrev pub line_as : Role → Name → plain.Claim → plain.Line
 line_as role.Assumption label c = plain.assume label c
 line_as role.Claim label c = plain.claim label None c
 
+-- the line of a row
 abbrev pub row_line : Name → Row → plain.Line
 row_line x row = line_as row.role row.label (atom_claim x row.atom)
 

@@ -1,9 +1,9 @@
 //! One-variable texts and the halves of their claims.
 //!
 //! `one_variable` takes read lines as a one-variable text, or says where they stop being the
-//! beginning of one. A `Text` stands for plain lines by `row_lines` of `specs/Rows.antt`. `half` gives
-//! the first value of the written order that meets the assumptions and a claim, or not the claim, and
-//! is right for all points.
+//! beginning of one. A `Text` stands for plain lines by `row_lines` of `specs/Rows.antt`. `half`
+//! gives the first value of the written order that meets the assumptions and a claim, or not the
+//! claim, and is right for all points.
 #![tactic(auto)]
 
 mod candidates;

@@ -29,7 +29,8 @@ impl Model for Ratio {
 
     ghost inverse = { λ q. record { num = q.num; den = q.less + 1 } };
 
-    ghost inverse_ok = { λ a h. ap (λ (d : ℕ). record { num = a.num; den = d }) (less_and_one a.den h.0) };
+    ghost inverse_ok = { λ a h. ap (λ (d : ℕ). record { num = a.num; den = d })
+        (less_and_one a.den h.0) };
 }
 
 impl Ratio {

@@ -31,7 +31,8 @@ over_first held w v es name e = record {
 }
 
 -- what holds of the entries behind another one holds with it
-behind : (held : Name) (w v : Fraction) (es fs : Point) (name : Name) → bytes_eq held name ≡ false → SetsValue es fs name v → SetsValue ((held, w) ∷ es) ((held, w) ∷ fs) name v
+behind : (held : Name) (w v : Fraction) (es fs : Point) (name : Name) → bytes_eq held name ≡ false → SetsValue es fs name v →
+    SetsValue ((held, w) ∷ es) ((held, w) ∷ fs) name v
 behind held w v es fs name e h = record {
   changed = past_first held w fs name e ∙ h.changed;
   others = λ other ne. ap (λ (q : Fraction). cond (bytes_eq held other) w q) (h.others other ne);
@@ -41,17 +42,20 @@ pub written_over : (es : Point) (i k : ℕ) (name : Name) (v : Fraction) (d : Na
     (j : ℕ) × (k ≡ i + j) × (j < length es) × SetsValue es (set es j ((get_or es j d).0, v)) name v
 written_over [] i k name v d h = absurd (let bad : ◌≡◌ {A = Option ℕ} None (Some k) = h in cc)
 written_over (entry ∷ es) i k name v d h =
-    elim (bytes_eq entry.0 name) as (λ (r : Bool). bytes_eq entry.0 name ≡ r → cond r (Some i) (position_from (λ entry. bytes_eq entry.0 name) (i + 1) es) ≡ Some k →
+    elim (bytes_eq entry.0 name) as (λ (r : Bool). bytes_eq entry.0 name ≡ r →
+    cond r (Some i) (position_from (λ entry. bytes_eq entry.0 name) (i + 1) es) ≡ Some k →
     (j : ℕ) × (k ≡ i + j) × (j < length (entry ∷ es)) × SetsValue (entry ∷ es) (set (entry ∷ es) j ((get_or (entry ∷ es) j d).0, v)) name v) [
       | true ↦ λ e f. (0, (let same : i ≡ k = cc in omega arith), omega arith, over_first entry.0 entry.1 v es name e)
       | false ↦ λ e f. let r = written_over es (i + 1) k name v d f in
           (suc r.0, (let m = r.1 in omega arith), (let m = r.2 in omega arith), behind entry.0 entry.1 v es _ name e r.3)
     ] refl h
 
-pub added : (es : Point) (i : ℕ) (name : Name) (v : Fraction) → position_from (λ entry. bytes_eq entry.0 name) i es ≡ None → SetsValue es (es ++ (name, v) ∷ []) name v
+pub added : (es : Point) (i : ℕ) (name : Name) (v : Fraction) → position_from (λ entry. bytes_eq entry.0 name) i es ≡ None →
+    SetsValue es (es ++ (name, v) ∷ []) name v
 added [] i name v h = record { changed = put_first [] name v; others = λ other ne. past_first name v [] other (differ name other (λ same. ne (sym same))) }
 added (entry ∷ es) i name v h =
-    elim (bytes_eq entry.0 name) as (λ (r : Bool). bytes_eq entry.0 name ≡ r → cond r (Some i) (position_from (λ entry. bytes_eq entry.0 name) (i + 1) es) ≡ None →
+    elim (bytes_eq entry.0 name) as (λ (r : Bool). bytes_eq entry.0 name ≡ r →
+    cond r (Some i) (position_from (λ entry. bytes_eq entry.0 name) (i + 1) es) ≡ None →
     SetsValue (entry ∷ es) (entry ∷ (es ++ (name, v) ∷ [])) name v) [
       | true ↦ λ e f. absurd (let bad : ◌≡◌ {A = Option ℕ} (Some i) None = f in cc)
       | false ↦ λ e f. behind entry.0 entry.1 v es _ name e (added es (i + 1) name v f)

@@ -14,8 +14,8 @@ struct Ratio {
     bottom: u64,
 }
 
-/// Numerator and denominator of the simplest fraction strictly between: the least denominator of all,
-/// and then the least absolute numerator.
+/// Numerator and denominator of the simplest fraction strictly between: the least denominator of
+/// all, and then the least absolute numerator.
 pub fn simplest_between(lo: &Frac, hi: &Frac) -> (i64, i64)
     requires { IsBelow lo.now hi.now }
     ensures simplest { HasParts result.0 result.1 (IsSimplestBetween lo.now hi.now) }

@@ -39,7 +39,8 @@ answers_wide ts r x (Err Memory) h is passes = tt
 pub divided_of : (ts least y : List Monomial) → IsPolynomial ts → IsPrimitiveForm ts least → y ≡ least → IsPrimitiveOf ts y
 divided_of ts least y h form last = subst (IsPrimitiveOf ts) (sym last) (form_is_primitive ts least h form)
 
-pub answers_divided : (ts y : List Monomial) (result : Result (List Monomial) Limit) → IsPrimitiveOf ts y → IfOk result (λ p. p ≡ y) → IfOk result (IsPrimitiveOf ts)
+pub answers_divided : (ts y : List Monomial) (result : Result (List Monomial) Limit) → IsPrimitiveOf ts y → IfOk result (λ p. p ≡ y) →
+    IfOk result (IsPrimitiveOf ts)
 answers_divided ts y (Ok p) h same = subst (IsPrimitiveOf ts) (sym same) h
 answers_divided ts y (Err e) h same = tt
 

@@ -37,7 +37,8 @@ signed_form_of turned ts all x least is same h =
     let form : IsPrimitiveForm (scaled (if turned then negsuc 0 else pos 1) ts) least = subst (λ z. IsPrimitiveForm z least) (same ∙ is) h in
     record { content = form.content; is_content = form.is_content; times = form.times }
 
-pub kept_form : (turned : Bool) (ts all x least y : List Monomial) → all ≡ scaled (if turned then negsuc 0 else pos 1) ts → x ≡ all → IsPrimitiveForm x least → y ≡ least
+pub kept_form : (turned : Bool) (ts all x least y : List Monomial) → all ≡ scaled (if turned then negsuc 0 else pos 1) ts → x ≡ all →
+    IsPrimitiveForm x least → y ≡ least
     → IsKept ts → IsKept y
 kept_form turned ts all x least y is same h last kept =
     let signed : IsKept (scaled (if turned then negsuc 0 else pos 1) ts) = kept_signed turned ts kept in

@@ -187,7 +187,8 @@ divided_more g ts us i d c r h k so_far left is exact =
     ∙ ap (λ t. take i ts ++ t ∷ []) same
     ∙ sym (take_more ts i d h)
 
-pub left_more : (ts us : List Monomial) (i : ℕ) (t : Monomial) → i < length ts → i < length us → drop i us ≡ drop i ts → drop (i + 1) (set us i t) ≡ drop (i + 1) ts
+pub left_more : (ts us : List Monomial) (i : ℕ) (t : Monomial) → i < length ts → i < length us → drop i us ≡ drop i ts →
+    drop (i + 1) (set us i t) ≡ drop (i + 1) ts
 left_more ts us i t h k left =
     let less : i < i + 1 = omega arith in
     drop-set-lt (i + 1) us i t less ∙ sym (drop-drop 1 i us) ∙ ap (drop 1) left ∙ drop-drop 1 i ts

@@ -33,7 +33,8 @@ pub height_more : (ts : List Monomial) (i n : ℕ) (d : Monomial) → i < length
 height_more ts i n d h k l =
     let more = ap height_of (take_more ts i d h) ∙ height-push (take i ts) (get_or ts i d) in omega (arith, more)
 
-pub exponents_more : (ts : List Monomial) (i n : ℕ) (d : Monomial) → i < length ts → greatest_exponent_of (take i ts) ≤ n → greatest_of (get_or ts i d).powers ≤ n
+pub exponents_more : (ts : List Monomial) (i n : ℕ) (d : Monomial) → i < length ts → greatest_exponent_of (take i ts) ≤ n →
+    greatest_of (get_or ts i d).powers ≤ n
     → greatest_exponent_of (take (i + 1) ts) ≤ n
 exponents_more ts i n d h k l =
     let more = ap greatest_exponent_of (take_more ts i d h) ∙ exponents-push (take i ts) (get_or ts i d) in omega (arith, more)

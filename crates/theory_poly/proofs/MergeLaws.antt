@@ -78,7 +78,8 @@ combined_coefficient t u rest e b is same =
     let other : own u e ≡ (if bytes_eq t.powers e then u.coefficient else pos 0) =
     ap (λ f. if bytes_eq f e then u.coefficient else pos 0) same in
     let both = own_sum (bytes_eq t.powers e) t.coefficient u.coefficient in
-    elim b as (λ b. int_eq (t.coefficient +ℤ u.coefficient) (pos 0) ≡ b → coefficient_at (if b then rest else monomial (t.coefficient +ℤ u.coefficient) t.powers ∷ rest) e ≡ own t e +ℤ own u e +ℤ coefficient_at rest e) [
+    elim b as (λ b. int_eq (t.coefficient +ℤ u.coefficient) (pos 0) ≡ b →
+    coefficient_at (if b then rest else monomial (t.coefficient +ℤ u.coefficient) t.powers ∷ rest) e ≡ own t e +ℤ own u e +ℤ coefficient_at rest e) [
       | true ↦ λ is. let none = own_zero (bytes_eq t.powers e) (t.coefficient +ℤ u.coefficient) (eq_means _ _ is) in omega (arith, ints, none, other, both)
       | false ↦ λ is. omega (arith, ints, other, both)
     ] is
@@ -96,7 +97,8 @@ chosen_coefficient Equal t u first both second e a b is f g h =
     omega (arith, ints, all, g)
 chosen_coefficient Greater t u first both second e a b is f g h = omega (arith, ints, h)
 
-into_coefficient : (t : Monomial) (ts : List Monomial) (e : List ℕ) → ((us : List Monomial) → coefficient_at (merged_of ts us) e ≡ coefficient_at ts e +ℤ coefficient_at us e)
+into_coefficient : (t : Monomial) (ts : List Monomial) (e : List ℕ) →
+    ((us : List Monomial) → coefficient_at (merged_of ts us) e ≡ coefficient_at ts e +ℤ coefficient_at us e)
     → (us : List Monomial) → coefficient_at (merged_of (t ∷ ts) us) e ≡ coefficient_at (t ∷ ts) e +ℤ coefficient_at us e
 unfolding merged_of merged_into own
 into_coefficient t ts e h [] =

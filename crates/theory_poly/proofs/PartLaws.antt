@@ -33,11 +33,14 @@ eq_means : (m n : ℕ) → (m == n) ≡ true → m ≡ n
 eq_means m n h = grind arith
 
 -- the parts of a list with one more term
-part_taken : (x k : ℕ) (t : Monomial) (ts : List Monomial) → (exponent_of x t == k) ≡ true → part_of x k (t ∷ ts) ≡ monomial t.coefficient (set t.powers x 0) ∷ part_of x k ts
-part_taken x k t ts h = ap (λ b. map (λ t. monomial t.coefficient (set t.powers x 0)) (cond b (t ∷ filter (λ t. exponent_of x t == k) ts) (filter (λ t. exponent_of x t == k) ts))) h
+part_taken : (x k : ℕ) (t : Monomial) (ts : List Monomial) → (exponent_of x t == k) ≡ true →
+    part_of x k (t ∷ ts) ≡ monomial t.coefficient (set t.powers x 0) ∷ part_of x k ts
+part_taken x k t ts h = ap (λ b. map (λ t. monomial t.coefficient (set t.powers x 0))
+    (cond b (t ∷ filter (λ t. exponent_of x t == k) ts) (filter (λ t. exponent_of x t == k) ts))) h
 
 part_left : (x k : ℕ) (t : Monomial) (ts : List Monomial) → (exponent_of x t == k) ≡ false → part_of x k (t ∷ ts) ≡ part_of x k ts
-part_left x k t ts h = ap (λ b. map (λ t. monomial t.coefficient (set t.powers x 0)) (cond b (t ∷ filter (λ t. exponent_of x t == k) ts) (filter (λ t. exponent_of x t == k) ts))) h
+part_left x k t ts h = ap (λ b. map (λ t. monomial t.coefficient (set t.powers x 0))
+    (cond b (t ∷ filter (λ t. exponent_of x t == k) ts) (filter (λ t. exponent_of x t == k) ts))) h
 
 part_first : (x k : ℕ) (t : Monomial) (ts : List Monomial) → length t.powers ≡ 32 → get_or t.powers x 0 ≡ k → PrecedesFirst t.powers ts → IsPolynomial ts
     → PrecedesFirst (set t.powers x 0) (part_of x k ts)

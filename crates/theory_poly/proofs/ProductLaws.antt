@@ -193,7 +193,8 @@ gathered_cross a b2 a2 b p q t r v x y few more is same h l is_x is_y g =
     let turned : product_of v b ≡ scaled (negsuc 0) (product_of a2 b) = ap (λ z. product_of z b) (same ∙ is) ∙ product_of_scaled (negsuc 0) a2 b in
     let as_many : length v ≡ length a2 = ap length (same ∙ is) ∙ length-map a2 (λ t. monomial (negsuc 0 *ℤ t.coefficient) t.powers) in
     subst (λ z. IsGathered (sum_of (product_of a b2) z) (2 ^ 124) r) turned
-    (gathered_sum (product_of a b2) (product_of v b) p q r x y (length a * 2 ^ 116) (length v * 2 ^ 116) (2 ^ 124) (omega (arith, few, more, as_many)) h l is_x is_y g)
+    (gathered_sum (product_of a b2) (product_of v b) p q r x y (length a * 2 ^ 116) (length v * 2 ^ 116) (2 ^ 124)
+    (omega (arith, few, more, as_many)) h l is_x is_y g)
 
 -- exponents, place by place
 pub greatest_at : (e : List ℕ) (k : ℕ) → k < length e → get_or e k 0 ≤ greatest_of e

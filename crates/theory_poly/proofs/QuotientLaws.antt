@@ -161,7 +161,8 @@ lowest_by_division ts r b g m ordered some h times is =
       };
       same = subst (λ z. AreSame (scaled (pos b) r) (scaled (pos m) z)) times
           (same_turned (scaled (pos m) (scaled (pos g) r)) (scaled (pos b) r)
-          (subst (λ n. AreSame (scaled (pos m) (scaled (pos g) r)) (scaled (pos n) r)) (let e : m * g ≡ b = omega (arith, parts) in e) (scaled_twice (pos m) (pos g) r)));
+          (subst (λ n. AreSame (scaled (pos m) (scaled (pos g) r)) (scaled (pos n) r)) (let e : m * g ≡ b = omega (arith, parts) in e)
+          (scaled_twice (pos m) (pos g) r)));
     }
 
 -- the lowest form is answered, and Wide where it passes a limit
@@ -184,7 +185,8 @@ pub carries_lowest : (ts us : List Monomial) (b : ℕ) (result : Result Quotient
 carries_lowest ts us b (Ok r) h k = lowest_of_same ts us b r h k
 carries_lowest ts us b (Err e) h k = tt
 
-pub carries_quotient_wide : (ts us : List Monomial) (b : ℕ) (result : Result Quotient Limit) → AreSame ts us → WideWhere (IsQuotientBeyond (quotient_of ts b)) result
+pub carries_quotient_wide : (ts us : List Monomial) (b : ℕ) (result : Result Quotient Limit) → AreSame ts us →
+    WideWhere (IsQuotientBeyond (quotient_of ts b)) result
     → WideWhere (IsQuotientBeyond (quotient_of us b)) result
 carries_quotient_wide ts us b (Ok r) h k = λ beyond. k (beyond.0, lowest_of_same us ts b beyond.0 (same_turned ts us h) beyond.1, beyond.2)
 carries_quotient_wide ts us b (Err Wide) h k = (k.0, lowest_of_same ts us b k.0 h k.1, k.2)

@@ -46,12 +46,15 @@ pub answers_lowest : (x ts : List Monomial) (p b : ℕ) (result : Result Quotien
     → IfOk result (IsLowestOf (quotient_of ts b))
 answers_lowest x ts p b result same is h = subst (λ n. IfOk result (IsLowestOf (quotient_of ts n))) is (carries_lowest x ts p result same h)
 
-pub answers_lowest_wide : (x ts : List Monomial) (p b : ℕ) (result : Result Quotient Limit) → AreSame x ts → p ≡ b → WideWhere (IsQuotientBeyond (quotient_of x p)) result
+pub answers_lowest_wide : (x ts : List Monomial) (p b : ℕ) (result : Result Quotient Limit) → AreSame x ts → p ≡ b →
+    WideWhere (IsQuotientBeyond (quotient_of x p)) result
     → WideWhere (IsQuotientBeyond (quotient_of ts b)) result
-answers_lowest_wide x ts p b result same is h = subst (λ n. WideWhere (IsQuotientBeyond (quotient_of ts n)) result) is (carries_quotient_wide x ts p result same h)
+answers_lowest_wide x ts p b result same is h = subst (λ n. WideWhere (IsQuotientBeyond (quotient_of ts n)) result) is
+    (carries_quotient_wide x ts p result same h)
 
 -- a polynomial over a number, divided in place
-pub new_is_kept : (ts r y : List Monomial) (b g m : ℕ) → IsKept ts → b ≤ bound → 0 < b → 0 < g → y ≡ ts → IsGreatestWith b y g → scaled (pos g) r ≡ ts → m ≡ b / g
+pub new_is_kept : (ts r y : List Monomial) (b g m : ℕ) → IsKept ts → b ≤ bound → 0 < b → 0 < g → y ≡ ts → IsGreatestWith b y g →
+    scaled (pos g) r ≡ ts → m ≡ b / g
     → IsKeptQuotient (quotient_of r m)
 new_is_kept ts r y b g m kept small some positive same h times is = record {
   lowest = (lowest_by_division ts r b g m kept.ordered some (subst (λ z. IsGreatestWith b z g) same h) times is).lowest;

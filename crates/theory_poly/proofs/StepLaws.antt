@@ -86,8 +86,12 @@ pub step_is_wide : (x d : ℕ) (q : Fraction) (ts sum next : List Monomial) (i :
 step_is_wide x d q ts sum next i power is_d less is_next is_power h (inl over) =
     let raised : power *ℤ pos (den q) ≡ pos (den q ^ suc i) = ap (λ z. z *ℤ pos (den q)) is_power ∙ ap pos (sym (pow-suc (den q) i)) in
     (suc i, omega (arith, is_d, less), inl (subst (λ z. bound < unsigned_abs z) raised over))
-step_is_wide x d q ts sum next i power is_d less is_next is_power h (inr beyond) =
-    (suc i, omega (arith, is_d, less), inr (beyond_same _ (restriction_step x q ts (suc i)) (same_step x d q ts sum next i power is_d is_next is_power h) beyond))
+step_is_wide x d q ts sum next i power is_d less is_next is_power h (inr beyond) = (
+  suc i,
+  omega (arith, is_d, less),
+  inr (beyond_same _ (restriction_step x q ts (suc i))
+      (same_step x d q ts sum next i power is_d is_next is_power h) beyond),
+)
 
 -- a step that fits
 pub step_made : (x d : ℕ) (q : Fraction) (ts sum next found : List Monomial) (i : ℕ) (power raised : ℤ) → d ≡ degree_in x ts → next ≡ part_of x (d - (i + 1)) ts
@@ -103,7 +107,8 @@ power_made q i power raised is_power is =
     let one_more : suc i ≡ i + 1 = omega arith in
     is ∙ ap (λ z. z *ℤ pos (den q)) is_power ∙ ap pos (sym (pow-suc (den q) i)) ∙ ap (λ k. pos (den q ^ k)) one_more
 
-pub powers_fit_more : (d i : ℕ) → ((j : ℕ) → j ≤ i → d ^ j ≤ bound) → (raised : ℤ) → raised ≡ pos (d ^ (i + 1)) → unsigned_abs raised ≤ bound → (j : ℕ) → j ≤ i + 1 → d ^ j ≤ bound
+pub powers_fit_more : (d i : ℕ) → ((j : ℕ) → j ≤ i → d ^ j ≤ bound) → (raised : ℤ) → raised ≡ pos (d ^ (i + 1)) → unsigned_abs raised ≤ bound → (j : ℕ) →
+    j ≤ i + 1 → d ^ j ≤ bound
 powers_fit_more d i h raised is small j below =
     elim (cases_lt i j) [
       | inl more ↦ let last : j ≡ i + 1 = omega arith in

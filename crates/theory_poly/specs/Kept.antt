@@ -50,6 +50,7 @@ pub record IsNextStep (q : Fraction) (sum : List Monomial) (power : ℤ) (next r
   pub power_is : raised ≡ power *ℤ pos (den q)
   pub small : unsigned_abs raised ≤ bound
 
+-- the power or the sum of the next step passes a limit
 abbrev pub PassesInStep : Fraction → List Monomial → ℤ → List Monomial → Type 0
 PassesInStep q sum power next =
     (bound < unsigned_abs (power *ℤ pos (den q))) ⊎ IsBeyond (sum_of (scaled q.num sum) (scaled (power *ℤ pos (den q)) next))

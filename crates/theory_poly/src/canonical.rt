@@ -23,7 +23,8 @@ pub fn signed_form(alloc: Global, turned: bool, terms: &[Term]) -> Result<Poly, 
 /// Whether the first coefficient is below 0.
 pub fn starts_below(terms: &[Term]) -> bool
     requires { 0 < length terms.now }
-    ensures { result ≡ int_lt (slice_index_or terms.now 0 (monomial (pos 0) [])).coefficient (pos 0) }
+    ensures { result
+        ≡ int_lt (slice_index_or terms.now 0 (monomial (pos 0) [])).coefficient (pos 0) }
 {
     terms[0].coefficient < 0
 }

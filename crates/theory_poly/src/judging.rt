@@ -77,7 +77,8 @@ pub fn passes_limit(terms: &[WideTerm]) -> bool
 }
 
 fn term_passes(t: &WideTerm) -> bool
-    ensures { MatchBool result ((15 < greatest_of t.now.powers) ⊎ (bound < unsigned_abs t.now.coefficient))
+    ensures { MatchBool result
+        ((15 < greatest_of t.now.powers) ⊎ (bound < unsigned_abs t.now.coefficient))
         ((greatest_of t.now.powers ≤ 15) × (unsigned_abs t.now.coefficient ≤ bound)) }
 {
     greatest(&t.powers) > 15 || t.coefficient.unsigned_abs() > W

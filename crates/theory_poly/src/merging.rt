@@ -21,7 +21,8 @@ pub fn sum_of_multiples(
     requires first { IsKept a.now }
     requires second_factor { unsigned_abs n ≤ bound }
     requires second { IsKept b.now }
-    ensures { IfOk result (λ r. IsGathered (sum_of (scaled m a.now) (scaled n b.now)) (2 ^ 117) r.items) }
+    ensures { IfOk result
+        (λ r. IsGathered (sum_of (scaled m a.now) (scaled n b.now)) (2 ^ 117) r.items) }
 {
     let left = multiple(alloc, m, a)?;
     let right = multiple(alloc, n, b)?;
@@ -71,7 +72,8 @@ pub fn merged(alloc: Global, a: &[WideTerm], b: &[WideTerm]) -> Result<Vec<WideT
     requires first { IsPolynomial a.now }
     requires second { IsPolynomial b.now }
     requires small { height_of a.now + height_of b.now < 2 ^ 127 }
-    ensures { IfOk result (λ r. IsGathered (sum_of a.now b.now) (height_of a.now + height_of b.now) r.items) }
+    ensures { IfOk result
+        (λ r. IsGathered (sum_of a.now b.now) (height_of a.now + height_of b.now) r.items) }
 {
     let mut all = Vec::new(alloc);
     let mut i = 0;
@@ -101,8 +103,11 @@ pub fn merged(alloc: Global, a: &[WideTerm], b: &[WideTerm]) -> Result<Vec<WideT
 /// Adds the sum of two terms with equal exponents, and nothing where it is 0.
 fn push_sum(all: &mut Vec<WideTerm>, t: &WideTerm, u: &WideTerm) -> Result<(), NoMemory>
     requires small { unsigned_abs t.now.coefficient + unsigned_abs u.now.coefficient < 2 ^ 127 }
-    ensures { OnOk result (all.new.items ≡ (if int_eq (t.now.coefficient +ℤ u.now.coefficient) (pos 0) then all.old.items
-        else (all.old.items ++ monomial (t.now.coefficient +ℤ u.now.coefficient) t.now.powers ∷ []))) }
+    ensures { OnOk result
+        (all.new.items
+        ≡ (if int_eq (t.now.coefficient +ℤ u.now.coefficient) (pos 0) then all.old.items
+        else (all.old.items
+        ++ monomial (t.now.coefficient +ℤ u.now.coefficient) t.now.powers ∷ []))) }
 {
     let coefficient = t.coefficient + u.coefficient;
     if coefficient != 0 {

@@ -161,7 +161,8 @@ impl Poly {
 
         // The sign is kept where it was not turned, and else turned at every point.
         ensures sign { IfOk result (λ found. (p : Values) (s : Sign) →
-            HasSignAt p found.0 s ↔ HasSignAt p (scaled (if found.1 then negsuc 0 else pos 1) self.now) s) }
+            HasSignAt p found.0 s ↔
+            HasSignAt p (scaled (if found.1 then negsuc 0 else pos 1) self.now) s) }
     {
         let turned = starts_below(self.as_slice());
         let poly = signed_form(alloc, turned, self.as_slice())?;

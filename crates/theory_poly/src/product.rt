@@ -42,7 +42,8 @@ fn negated(alloc: Global, terms: &[Term]) -> Result<Vec<Term>, NoMemory>
 
 fn negative(t: &Term) -> Term
     requires { unsigned_abs t.now.coefficient ≤ bound }
-    ensures { result ≡ record { coefficient = negsuc 0 *ℤ t.now.coefficient; powers = t.now.powers } }
+    ensures { result
+        ≡ record { coefficient = negsuc 0 *ℤ t.now.coefficient; powers = t.now.powers } }
 {
     Term {
         coefficient: -t.coefficient,
@@ -54,7 +55,8 @@ fn negative(t: &Term) -> Term
 pub fn multiplied_out(alloc: Global, a: &[Term], b: &[Term]) -> Result<Vec<WideTerm>, NoMemory>
     requires first { IsKept a.now }
     requires second { IsKept b.now }
-    ensures { IfOk result (λ r. IsGathered (product_of a.now b.now) (length a.now * 2 ^ 116) r.items) }
+    ensures { IfOk result
+        (λ r. IsGathered (product_of a.now b.now) (length a.now * 2 ^ 116) r.items) }
 {
     if a.len() == 0 {
         return Ok(Vec::new(alloc));

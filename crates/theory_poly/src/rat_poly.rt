@@ -86,7 +86,8 @@ impl RatPoly {
     /// The difference; Wide where its lowest form passes a limit.
     pub fn sub(&self, alloc: Global, other: &RatPoly) -> Result<RatPoly, Limit>
         ensures value { IfOk result (IsLowestOf (difference_of_quotients self.now other.now)) }
-        ensures wide { WideWhere (IsQuotientBeyond (difference_of_quotients self.now other.now)) result }
+        ensures wide { WideWhere
+            (IsQuotientBeyond (difference_of_quotients self.now other.now)) result }
     {
         let first = self.below();
         let second = other.below();
@@ -103,7 +104,8 @@ impl RatPoly {
     /// The product; Wide where its lowest form passes a limit.
     pub fn mul(&self, alloc: Global, other: &RatPoly) -> Result<RatPoly, Limit>
         ensures value { IfOk result (IsLowestOf (product_of_quotients self.now other.now)) }
-        ensures wide { WideWhere (IsQuotientBeyond (product_of_quotients self.now other.now)) result }
+        ensures wide { WideWhere
+            (IsQuotientBeyond (product_of_quotients self.now other.now)) result }
     {
         let all = multiplied_out(alloc, self.top().as_slice(), other.top().as_slice())?;
         lowest(alloc, &all, product_below(self.below(), other.below()))

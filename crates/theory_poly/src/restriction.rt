@@ -21,7 +21,8 @@ const W: i128 = 1 << 58;
 pub fn last_step(alloc: Global, x: u8, value: &Frac, terms: &[Term]) -> Result<Poly, Limit>
     requires symbol { x < 32 }
     requires terms { IsKept terms.now }
-    ensures value { IfOk result (IsPolynomialOf (restriction_step x value.now terms.now (degree_in x terms.now))) }
+    ensures value { IfOk result
+        (IsPolynomialOf (restriction_step x value.now terms.now (degree_in x terms.now))) }
     ensures wide { WideWhere (IsWideRestriction x value.now terms.now) result }
 {
     let degree = greatest_exponent(x, terms);
@@ -50,7 +51,8 @@ fn next_step(
 ) -> Result<(Poly, i64), Limit>
     requires low { pos 0 ≤ℤ power }
     requires high { unsigned_abs power ≤ bound }
-    ensures value { IfOk result (λ found. IsNextStep value.now sum.now power next.now found.0 found.1) }
+    ensures value { IfOk result
+        (λ found. IsNextStep value.now sum.now power next.now found.0 found.1) }
     ensures wide { WideWhere (PassesInStep value.now sum.now power next.now) result }
 {
     let raised = product(power, value.den());

@@ -8,5 +8,6 @@ pub record Condition : Type 0 where
   pub poly : List Monomial
   pub signs : Signs
 
+-- the condition on this polynomial with this set
 abbrev pub condition : List Monomial → Signs → Condition
 condition P S = record { poly = P; signs = S }

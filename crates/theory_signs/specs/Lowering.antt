@@ -24,6 +24,7 @@ abbrev pub form_of : Bool → claim.Claim → claim.Claim
 form_of true c = normal_form c
 form_of false c = negated_form c
 
+-- the normal forms of claims, or of their negations
 abbrev pub forms_of : Bool → claim.Claims → claim.Claims
 forms_of true cs = normal_forms cs
 forms_of false cs = negated_forms cs

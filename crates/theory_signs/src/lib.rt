@@ -1,8 +1,8 @@
 //! Sign conditions on polynomials, formulas of them, and the lowering of claims to formulas.
 //!
 //! A contract sees an `Atom` as its polynomial and its set of signs, and a `Formula` as the plain
-//! tree that it stands for: `formula_of` of `specs/Plain.antt`. Each call keeps or turns the truth at
-//! every point. Read `make_atom` first.
+//! tree that it stands for: `formula_of` of `specs/Plain.antt`. Each call keeps or turns the truth
+//! at every point. Read `make_atom` first.
 #![tactic(auto)]
 
 mod atom;

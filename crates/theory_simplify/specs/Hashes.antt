@@ -23,9 +23,11 @@ head_of (atom P S) = hash_of P
 head_of (conjunction Fs) = 2
 head_of (disjunction Fs) = 3
 
+-- a hasher that was fed the head of a formula
 abbrev pub with_head : FoldHasher → Formula → FoldHasher
 with_head hasher F = fold folding.write hasher (hashed.u64 (head_of F))
 
+-- a hasher that was fed the heads of formulas, in their order
 abbrev pub with_heads : FoldHasher → Formulas → FoldHasher
 with_heads hasher none = hasher
 with_heads hasher (more F Fs) = with_heads (with_head hasher F) Fs

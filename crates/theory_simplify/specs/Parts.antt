@@ -18,9 +18,11 @@ use Rattle.theory_simplify.specs.Drafts.{draft_of}
 abbrev pub part_of : Draft → Part plain.Formula
 part_of D = as_part (draft_of D)
 
+-- drafts as members, in their order
 abbrev pub parts_of : List Draft → List (Part plain.Formula)
 parts_of Ds = map part_of Ds
 
+-- the drafts of a vector as members
 abbrev pub parts_in : Vec Draft Global → List (Part plain.Formula)
 parts_in Ds = parts_of Ds.items
 
@@ -28,6 +30,7 @@ parts_in Ds = parts_of Ds.items
 abbrev pub fact_of : Condition → Fact
 fact_of a = record { poly = a.poly; signs = a.signs }
 
+-- atoms as facts, in their order
 abbrev pub facts_of : List Condition → Facts
 facts_of known = map fact_of known
 
@@ -37,6 +40,7 @@ waiting_part (told b) = told b
 waiting_part (condition P S) = condition P S
 waiting_part (other F) = other (λ K. simplified_under K F)
 
+-- each list among the members waits for facts
 abbrev pub waiting : List (Part plain.Formula) → List Waiting
 waiting ps = map waiting_part ps
 

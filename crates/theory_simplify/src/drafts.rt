@@ -8,7 +8,7 @@ use std::alloc::Global;
 use theory_points::NoMemory;
 use theory_signs::{Formula, Formulas};
 
-/// A formula on the way to its simplified form; the formula that is simplified lends the polynomials.
+/// A formula on the way to its simplified form; the simplified one lends the polynomials.
 #[derive(Drop)]
 pub enum Draft<'a> {
     True,

@@ -11,7 +11,8 @@ use theory_points::NoMemory;
 /// The members of nested lists of one kind as one list.
 pub fn flattened<'a>(alloc: Global, all: bool, members: Drafts<'a>) -> Result<Drafts<'a>, NoMemory>
     ensures { IfOk result (λ flat.
-        parts_of flat.items ≡ all_flat_parts all (formulas_from (map draft_of members.entry.items))) }
+        parts_of flat.items
+        ≡ all_flat_parts all (formulas_from (map draft_of members.entry.items))) }
 {
     let mut flat = Vec::new(alloc);
     flatten(all, members, &mut flat)?;

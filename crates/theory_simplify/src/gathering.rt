@@ -99,7 +99,8 @@ fn put_together_all<'a>(
 /// Puts an atom together with the one of its polynomial, or at the end; false where that decides.
 fn put_in<'a>(all: bool, done: &mut Drafts<'a>, atom: LentAtom<'a>) -> Result<bool, NoMemory>
     ensures { IfOk result (IsPutIn
-        (with_condition all atom.entry.poly atom.entry.signs (parts_of done.old.items)) done.new.items) }
+        (with_condition all atom.entry.poly atom.entry.signs (parts_of done.old.items))
+        done.new.items) }
 {
     match held_at(done, &atom) {
         Some((place, held)) => match put_together(all, held, atom.signs()) {

@@ -122,7 +122,7 @@ fn repeated_and_single_members(rt: HostRuntime) -> Result<(), Fail> {
     Ok(())
 }
 
-/// 512 atoms on 256 polynomials that have the same first term: two are met at the first one's place.
+/// 512 atoms on 256 polynomials with the same first term: two are met at the first one's place.
 #[test]
 fn many_atoms(rt: HostRuntime) -> Result<(), Fail> {
     let alloc = rt.alloc();

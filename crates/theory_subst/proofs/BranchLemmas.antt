@@ -44,7 +44,8 @@ others_linear : (x : ℕ) (F : tree.Formula) (t : Option Taken) (e : TopEquation
 others_linear x F None e is linear h = absurd h
 others_linear x F (Some t) e is linear h = subst (IsLinear x) (sym h.others) (equation_each x F t (IsLinearAtom x) is linear).1
 
-pub others_are_linear : (x : ℕ) (F : tree.Formula) (e : TopEquation) → IsLinear x F → IsTopEquation x (top_equation x F) (Some e) → IsLinear x (formula_of e.others)
+pub others_are_linear : (x : ℕ) (F : tree.Formula) (e : TopEquation) → IsLinear x F → IsTopEquation x (top_equation x F) (Some e) →
+    IsLinear x (formula_of e.others)
 others_are_linear x F e linear h = others_linear x F (top_equation x F) e refl linear h
 
 -- the plans by an equation, and by test points where there is none
@@ -66,7 +67,8 @@ kth_branch x k F plans (Ok (Some G)) are h = subst (λ ps. IsWrittenByKth x ps k
 kth_branch x k F plans (Ok None) are h = subst (λ ps. length ps ≤ k) are h
 kth_branch x k F plans (Err e) are h = tt
 
-pub branch_by_equation_is : (x k : ℕ) (F : tree.Formula) (e : TopEquation) (result : Result (Option Formula) Limit) → IsTopEquation x (top_equation x F) (Some e)
+pub branch_by_equation_is : (x k : ℕ) (F : tree.Formula) (e : TopEquation) (result : Result (Option Formula) Limit) →
+    IsTopEquation x (top_equation x F) (Some e)
     → IfOk result (IsWrittenByKth x (root_plans (is_constant e.slope) e.slope e.base (formula_of e.others)) k) → IfOk result (IsKthBranch x F k)
 branch_by_equation_is x k F e result h written =
     kth_branch x k F (root_plans (is_constant e.slope) e.slope e.base (formula_of e.others)) result (equation_plans x F (top_equation x F) e h) written

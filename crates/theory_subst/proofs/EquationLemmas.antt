@@ -96,5 +96,6 @@ lone_of x None = refl
 lone_of x (Some P) = lone_if (is_constant (slope_in x P)) P
 
 pub lone_is : (x : ℕ) (F : Formula)
-    → or_else (taken_behind (equation_with true x) [] (F ∷ [])) (taken_behind (equation_with false x) [] (F ∷ [])) ≡ taken_behind (equation_with false x) [] (F ∷ [])
+    → or_else (taken_behind (equation_with true x) [] (F ∷ [])) (taken_behind (equation_with false x) [] (F ∷ [])) ≡ taken_behind
+    (equation_with false x) [] (F ∷ [])
 lone_is x F = lone_of x (equation_of x F)

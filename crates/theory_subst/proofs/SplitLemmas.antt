@@ -26,7 +26,8 @@ eq_fails m n h = grind (arith, h)
 
 -- the part behind a term: with the term, if it has the exponent
 abbrev part_if : Bool → ℕ → ℕ → Monomial → List Monomial → List Monomial
-part_if b x k t ts = map (λ t. monomial t.coefficient (set t.powers x 0)) (cond b (t ∷ filter (λ t. exponent_of x t == k) ts) (filter (λ t. exponent_of x t == k) ts))
+part_if b x k t ts = map (λ t. monomial t.coefficient (set t.powers x 0))
+    (cond b (t ∷ filter (λ t. exponent_of x t == k) ts) (filter (λ t. exponent_of x t == k) ts))
 
 part_taken : (x k : ℕ) (t : Monomial) (ts : List Monomial) → exponent_of x t ≡ k
     → part_of x k (t ∷ ts) ≡ monomial t.coefficient (set t.powers x 0) ∷ part_of x k ts

@@ -34,6 +34,7 @@ pub record IsFoundAt (x : ℕ) (Fs : List Formula) (t : Taken) (f : Found) : Typ
   pub line : IsLine x t.poly f.slope f.base
   pub others : t.others ≡ without f.place Fs
 
+-- the first equation of a list, where it has one
 abbrev pub IsFirst : ℕ → List Formula → Option Taken → Option Found → Type 0
 IsFirst x Fs None None = Unit {0}
 IsFirst x Fs (Some t) (Some f) = IsFoundAt x Fs t f

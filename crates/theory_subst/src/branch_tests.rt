@@ -362,7 +362,7 @@ fn origin_sign(poly: &Poly) -> theory_meaning::Sign {
     theory_meaning::Sign::Zero
 }
 
-/// x in x*y - z = 0 and y = 0 and z = 0: of three branches only the last is true where y and z are 0.
+/// x in x*y - z = 0 and y = 0 and z = 0: where y and z are 0 only the last of three is true.
 #[test]
 fn a_vanishing_equation(rt: HostRuntime) -> Result<(), Fail> {
     let alloc = rt.alloc();

@@ -86,7 +86,7 @@ fn branch_by_equation(
     }
 }
 
-/// At the root for a positive slope, for a negative one, and level; one root where the sign is known.
+/// At the root for a positive slope, a negative one, and level; one root where the sign is known.
 fn root_plan(slope: Poly, base: Poly, k: u32) -> Option<Plan>
     ensures { (F : tree.Formula) → slice_get (root_plans (is_constant slope) slope base F) k
         ≡ option_map (plan_of F) result }

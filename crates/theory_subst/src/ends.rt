@@ -28,7 +28,8 @@ pub fn add_ends(
     requires symbol { x < 32 }
     requires linear { IsLinear x (formula_of formula.now) }
     ensures { OnOk result (points_of points.new.items
-        ≡ with_new (points_of points.old.items) (ends_of_atoms x (atoms_of (formula_of formula.now)))) }
+        ≡ with_new (points_of points.old.items)
+        (ends_of_atoms x (atoms_of (formula_of formula.now)))) }
 {
     match formula {
         Formula::True | Formula::False => Ok(()),

@@ -140,8 +140,8 @@ fn some_is(wanted: bool, members: &[Formula], point: &[i64; 3]) -> bool {
     false
 }
 
-/// Whether some quarter from -4 to 4 is a value of x: each root is a half from -3 to 3, so these are
-/// all roots, with values between, below and above them.
+/// Whether some quarter from -4 to 4 is a value of x: each root is a half from -3 to 3, so these
+/// are all roots, with values between, below and above them.
 fn has_value(formula: &Formula, y: i64, z: i64) -> bool {
     for x in -16..17 {
         if truth(formula, &[x, y, z]) {
@@ -161,7 +161,7 @@ fn some_has_value(branches: &[Formula], y: i64, z: i64) -> bool {
     false
 }
 
-/// At each point of a grid some branch is true exactly where some value of x makes the formula true.
+/// At each point of a grid some branch is true exactly where some value of x makes it so.
 #[test]
 fn branches_tell_whether_there_is_a_value(rt: HostRuntime) -> Result<(), Fail> {
     let alloc = rt.alloc();

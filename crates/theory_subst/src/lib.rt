@@ -1,7 +1,7 @@
 //! Elimination of one symbol by virtual substitution of test points.
 //!
-//! A contract sees a formula as its plain tree, and a test point as the plain one that it stands for
-//! (`point_of` of `specs/Points.antt`). Read `branch` first.
+//! A contract sees a formula as its plain tree, and a test point as the plain one that it stands
+//! for (`point_of` of `specs/Points.antt`). Read `branch` first.
 #![tactic(auto)]
 
 #[cfg(test)]

@@ -64,7 +64,8 @@ fn are_same_terms(a: &[Term], b: &[Term]) -> bool
 }
 
 fn is_same_term(t: &Term, u: &Term) -> bool
-    ensures { result ≡ (int_eq t.now.coefficient u.now.coefficient && bytes_eq t.now.powers u.now.powers) }
+    ensures { result
+        ≡ (int_eq t.now.coefficient u.now.coefficient && bytes_eq t.now.powers u.now.powers) }
 {
     t.coefficient == u.coefficient && t.powers == u.powers
 }

@@ -143,7 +143,8 @@ fn equation(
 /// Whether the atom is an equation in which the symbol occurs.
 fn is_equation(x: u8, atom: &Atom) -> bool
     requires { x < 32 }
-    ensures { equation_of x (plain.atom atom.now.poly atom.now.signs) ≡ equation_if result atom.now.poly }
+    ensures { equation_of x (plain.atom atom.now.poly atom.now.signs)
+        ≡ equation_if result atom.now.poly }
 {
     match atom.signs() {
         Signs::Zero => atom.poly().degree_in(x) > 0,

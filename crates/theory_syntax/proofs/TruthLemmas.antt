@@ -64,7 +64,8 @@ pub valued_of_two : (op : Fraction → Fraction → Fraction) → Respects op �
 valued_of_two op respects L R v w f g found left right is =
     of_two L R (op f g) (op v w) found left.narrow right.narrow (respects f v g w left.same right.same) is
 
-pub valued_of_one : (op : Fraction → Fraction) → ((q p : Fraction) → IsSame q p → IsSame (op q) (op p)) → (L : Type 0) (v f : Fraction) (found : Option Fraction)
+pub valued_of_one : (op : Fraction → Fraction) → ((q p : Fraction) → IsSame q p → IsSame (op q) (op p)) →
+    (L : Type 0) (v f : Fraction) (found : Option Fraction)
     → IsValue L v f → IsFound (op f) found → IsValued (L ⊎ IsWide (op v)) (op v) found
 valued_of_one op respects L v f found part is =
     of_one L (op f) (op v) found part.narrow (respects f v part.same) is

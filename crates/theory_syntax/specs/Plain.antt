@@ -59,17 +59,19 @@ line_of (source.TheVariants.Eq label u v) = plain.equation label (expr_of u) (ex
 line_of (source.TheVariants.Assume label c) = plain.assume label (claim_of c)
 line_of (source.TheVariants.Claim label shift c) = plain.claim label shift (claim_of c)
 
--- a line with its number, and the lines of a text
+-- a line with its number
 abbrev pub numbered_of : Numbered → text.Numbered
 numbered_of n = record { at = n.at; line = line_of n.line }
 
+-- the lines of a text
 abbrev pub lines_of : List Numbered → List text.Numbered
 lines_of = map numbered_of
 
--- a change, and changes in order
+-- a change
 abbrev pub op_of : change.Op → text.Op
 op_of (change.TheVariants.Put line) = text.put_line (line_of line)
 op_of (change.TheVariants.Drop key) = text.drop_key key
 
+-- changes in order
 abbrev pub ops_of : List change.Op → List text.Op
 ops_of = map op_of

@@ -1,7 +1,8 @@
 //! Expressions, claims, lines and sentences of a model.
 //!
-//! Contracts see each value as the plain tree that it stands for: `expr_of`, `claim_of`, `claims_of`,
-//! `line_of`, `lines_of` and `ops_of` of `specs/Plain.antt`, in the trees of `theory_meaning`.
+//! Contracts see each value as the plain tree that it stands for: `expr_of`, `claim_of`,
+//! `claims_of`, `line_of`, `lines_of` and `ops_of` of `specs/Plain.antt`, in the trees of
+//! `theory_meaning`.
 #![tactic(auto)]
 
 mod claim;

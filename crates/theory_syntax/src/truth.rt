@@ -13,8 +13,8 @@ use std::cmp::Ordering;
 use theory_meaning::Rel;
 use theory_points::{Frac, Point, Wide};
 
-/// The truth of a claim at a point, every part of it computed; Wide where the value of an expression
-/// in it, or of a part of one, passes 2^58, also where that couldn't change the truth.
+/// The truth of a claim at a point, every part of it computed; Wide where the value of an
+/// expression in it, or of a part of one, passes 2^58, also where that couldn't change the truth.
 pub fn truth_at(claim: &Claim, point: &Point) -> Result<bool, Wide>
     ensures { IsTruth (claim_of claim.now) point.now result }
 {
@@ -45,7 +45,8 @@ fn truth(claim: &Claim, point: &Point) -> Option<bool>
 /// Whether every claim of a list is true; none is left out.
 #[cycle(truth)]
 fn all_true(claims: &[Claim], point: &Point) -> Option<bool>
-    ensures { IsTold (SomeHasWidePart (members_of claims.now) point.now) (all_of (members_of claims.now) point.now) result }
+    ensures { IsTold (SomeHasWidePart (members_of claims.now) point.now)
+        (all_of (members_of claims.now) point.now) result }
 {
     let mut all = true;
     for claim in claims {
@@ -57,7 +58,8 @@ fn all_true(claims: &[Claim], point: &Point) -> Option<bool>
 /// Whether some claim of a list is true; none is left out.
 #[cycle(truth)]
 fn some_true(claims: &[Claim], point: &Point) -> Option<bool>
-    ensures { IsTold (SomeHasWidePart (members_of claims.now) point.now) (some_of (members_of claims.now) point.now) result }
+    ensures { IsTold (SomeHasWidePart (members_of claims.now) point.now)
+        (some_of (members_of claims.now) point.now) result }
 {
     let mut some = false;
     for claim in claims {
@@ -68,7 +70,8 @@ fn some_true(claims: &[Claim], point: &Point) -> Option<bool>
 
 /// The value of an expression at a point; None where it or a part of it passes 2^58.
 fn value(expr: &Expr, point: &Point) -> Option<Frac>
-    ensures { IsValued (HasWideValue (expr_of expr.now) point.now) (value_of (expr_of expr.now) point.now) result }
+    ensures { IsValued (HasWideValue (expr_of expr.now) point.now)
+        (value_of (expr_of expr.now) point.now) result }
 {
     match expr {
         Expr::Num(q) => Some(kept(*q)),

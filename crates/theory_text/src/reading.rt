@@ -18,7 +18,8 @@ use theory_syntax::{Line, Lines, Numbered, Ops};
 
 /// The numbered lines of a model text.
 pub fn read_text(alloc: Global, bytes: &[u8]) -> Result<Lines, TextError>
-    ensures exact { IsReadAs SpellsLines IsFirstFault (λ lines. lines_of lines.items) bytes.now result }
+    ensures exact { IsReadAs SpellsLines IsFirstFault
+        (λ lines. lines_of lines.items) bytes.now result }
 
     // Names, labels, arguments and shifts are identifiers.
     ensures identifiers { IfOk result (λ lines. HaveIdentifiers (lines_of lines.items)) }

@@ -15,6 +15,7 @@ placed_of [] cs = []
 placed_of (t ∷ ts) [] = []
 placed_of (t ∷ ts) (c ∷ cs) = record { column = c; token = plain_token t } ∷ placed_of ts cs
 
+-- how the line ends: behind its tokens, or at bytes that are none
 abbrev pub end_of : End → plain.End
 end_of (Complete c) = plain.complete c
 end_of (Broken why c) = plain.broken why c

@@ -1,8 +1,9 @@
 //! Halves, verdicts, regions and answers.
 //!
-//! A question has two halves: is there an example, a point that meets the assumptions and the claim,
-//! and is there a counterexample, one that meets the assumptions and not the claim. Contracts see a half
-//! as the plain one of `theory_meaning` (`half_of` of `specs/Plain.antt`). Read `verdict_of` first.
+//! A question has two halves: is there an example, a point that meets the assumptions and the
+//! claim, and is there a counterexample, one that meets the assumptions and not the claim.
+//! Contracts see a half as the plain one of `theory_meaning` (`half_of` of `specs/Plain.antt`).
+//! Read `verdict_of` first.
 #![tactic(auto)]
 
 mod answer;

@@ -19,9 +19,12 @@ returns-clause-answer c = record {
   counter = c.in_ok-counter.ensures.written;
   example_right = c.in_ok-example.ensures.right;
   counter_right = c.in_ok-counter.ensures.right;
-  verdict_right = subst (λ (v : Verdict). IsRightVerdict (Meets (assumptions_of (row_lines c.args.text.now.variable c.args.text.now.rows.items))) (IsTrueAt (atom_claim c.args.text.now.variable c.args.row.now.atom)) v)
+  verdict_right = subst (λ (v : Verdict). IsRightVerdict (Meets (assumptions_of (row_lines c.args.text.now.variable c.args.text.now.rows.items)))
+      (IsTrueAt (atom_claim c.args.text.now.variable c.args.row.now.atom)) v)
       (sym c.verdict_of-verdict.ensures)
-      (right_halves_give_the_right_verdict (assumptions_of (row_lines c.args.text.now.variable c.args.text.now.rows.items)) (atom_claim c.args.text.now.variable c.args.row.now.atom) (half_of c.in_ok-example.example) (half_of c.in_ok-counter.counter) c.in_ok-example.ensures.right c.in_ok-counter.ensures.right);
+      (right_halves_give_the_right_verdict (assumptions_of (row_lines c.args.text.now.variable c.args.text.now.rows.items))
+      (atom_claim c.args.text.now.variable c.args.row.now.atom) (half_of c.in_ok-example.example) (half_of c.in_ok-counter.counter)
+      c.in_ok-example.ensures.right c.in_ok-counter.ensures.right);
   verdict_is = c.verdict_of-verdict.ensures;
   no_region = refl;
 }

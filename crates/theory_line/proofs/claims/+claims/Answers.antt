@@ -80,7 +80,8 @@ conjunct-returns-in-Some-behind_mark-clause-parses t c =
 
 pub disjunct-returns-in_err-first-clause-parses : goal.disjunct-returns-in_err-first-clause-parses
 disjunct-returns-in_err-first-clause-parses t c =
-    chain.stop_first_conjunct c.args.depth c.args.tokens.now c.in_err-first.field-0.0 c.from_residual.result c.from_residual.ensures c.in_err-first.ensures.parses
+    chain.stop_first_conjunct c.args.depth c.args.tokens.now c.in_err-first.field-0.0 c.from_residual.result c.from_residual.ensures
+    c.in_err-first.ensures.parses
 
 pub disjunct-loop-behind-init : goal.disjunct-loop-behind-init
 disjunct-loop-behind-init t c =
@@ -103,7 +104,8 @@ disjunct-returns-in_err-member-clause-parses t c =
     c.in_err-member.ensures.parses
 
 pub disjunct-loop-behind-smaller : goal.disjunct-loop-behind-smaller
-disjunct-loop-behind-smaller t c = chain.fewer_behind_conjunct c.args.depth c.loop-behind.rest.now c.in-Some.behind.now c.in_ok-member.left c.in_ok-member.member
+disjunct-loop-behind-smaller t c = chain.fewer_behind_conjunct c.args.depth c.loop-behind.rest.now c.in-Some.behind.now c.in_ok-member.left
+    c.in_ok-member.member
     c.in-Some.ensures c.in_ok-member.ensures.parses
 
 pub disjunct-loop-behind-preserved : goal.disjunct-loop-behind-preserved
@@ -114,7 +116,8 @@ disjunct-loop-behind-preserved t c =
 
 pub premise-returns-in_err-first-clause-parses : goal.premise-returns-in_err-first-clause-parses
 premise-returns-in_err-first-clause-parses t c =
-    chain.stop_first_disjunct c.args.depth c.args.tokens.now c.in_err-first.field-0.0 c.from_residual.result c.from_residual.ensures c.in_err-first.ensures.parses
+    chain.stop_first_disjunct c.args.depth c.args.tokens.now c.in_err-first.field-0.0 c.from_residual.result c.from_residual.ensures
+    c.in_err-first.ensures.parses
 
 pub premise-loop-behind-init : goal.premise-loop-behind-init
 premise-loop-behind-init t c =
@@ -148,7 +151,8 @@ premise-loop-behind-preserved t c =
 
 pub side-returns-in_err-first-clause-parses : goal.side-returns-in_err-first-clause-parses
 side-returns-in_err-first-clause-parses t c =
-    chain.stop_first_premise c.args.depth c.args.tokens.now c.in_err-first.field-0.0 c.from_residual.result c.from_residual.ensures c.in_err-first.ensures.parses
+    chain.stop_first_premise c.args.depth c.args.tokens.now c.in_err-first.field-0.0 c.from_residual.result c.from_residual.ensures
+    c.in_err-first.ensures.parses
 
 pub side-loop-behind-init : goal.side-loop-behind-init
 side-loop-behind-init t c =

@@ -15,13 +15,17 @@ returns-in_err-lone_name-in-Some-Model-default c =
     let us = plain_tokens c.in-Some-Model-default.rest.now in
     passed_by_line plain.model line_of (reading name_of_model us) (reading start (plain_tokens c.args.tokens.now))
     c.in_err-lone_name-in-Some-Model-default.field-0.0 c.from_residual.result c.from_residual.ensures
-    (ap (reading start) (c.in-Some-Model-default.ensures ∙ ap (λ k. keyword k ∷ plain_tokens c.in-Some-Model-default.rest.now) c.in-Some-Model-default.field-0-0-is)) (c.in_err-lone_name-in-Some-Model-default.ensures name_of_model plain.model
+    (ap (reading start) (c.in-Some-Model-default.ensures
+    ∙ ap (λ k. keyword k ∷ plain_tokens c.in-Some-Model-default.rest.now) c.in-Some-Model-default.field-0-0-is))
+    (c.in_err-lone_name-in-Some-Model-default.ensures name_of_model plain.model
     (wants_name name_of_model (λ x. finished (plain.model x)) us (λ t. refl) refl))
 
 pub returns-in_ok-lone_name-in-Some-Model-default : goal.returns-in_ok-lone_name-in-Some-Model-default
 returns-in_ok-lone_name-in-Some-Model-default c =
     let us = plain_tokens c.in-Some-Model-default.rest.now in
-    ap (reading start) (c.in-Some-Model-default.ensures ∙ ap (λ k. keyword k ∷ plain_tokens c.in-Some-Model-default.rest.now) c.in-Some-Model-default.field-0-0-is) ∙ c.in_ok-lone_name-in-Some-Model-default.ensures name_of_model plain.model
+    ap (reading start) (c.in-Some-Model-default.ensures
+    ∙ ap (λ k. keyword k ∷ plain_tokens c.in-Some-Model-default.rest.now) c.in-Some-Model-default.field-0-0-is)
+    ∙ c.in_ok-lone_name-in-Some-Model-default.ensures name_of_model plain.model
     (wants_name name_of_model (λ x. finished (plain.model x)) us (λ t. refl) refl)
 
 pub lone_name-requires-in-Some-Var-default : goal.lone_name-requires-in-Some-Var-default
@@ -34,34 +38,43 @@ pub returns-in_err-lone_name-in-Some-Var-default : goal.returns-in_err-lone_name
 returns-in_err-lone_name-in-Some-Var-default c =
     let us = plain_tokens c.in-Some-Var-default.rest.now in
     passed_by_line plain.var line_of (reading name_of_var us) (reading start (plain_tokens c.args.tokens.now))
-    c.in_err-lone_name-in-Some-Var-default.field-0.0 c.from_residual-in_err-lone_name-in-Some-Var-default.result c.from_residual-in_err-lone_name-in-Some-Var-default.ensures
-    (ap (reading start) (c.in-Some-Var-default.ensures ∙ ap (λ k. keyword k ∷ plain_tokens c.in-Some-Var-default.rest.now) c.in-Some-Var-default.field-0-0-is)) (c.in_err-lone_name-in-Some-Var-default.ensures name_of_var plain.var
+    c.in_err-lone_name-in-Some-Var-default.field-0.0 c.from_residual-in_err-lone_name-in-Some-Var-default.result
+    c.from_residual-in_err-lone_name-in-Some-Var-default.ensures
+    (ap (reading start) (c.in-Some-Var-default.ensures ∙ ap (λ k. keyword k ∷ plain_tokens c.in-Some-Var-default.rest.now)
+    c.in-Some-Var-default.field-0-0-is)) (c.in_err-lone_name-in-Some-Var-default.ensures name_of_var plain.var
     (wants_name name_of_var (λ x. finished (plain.var x)) us (λ t. refl) refl))
 
 pub returns-in_ok-lone_name-in-Some-Var-default : goal.returns-in_ok-lone_name-in-Some-Var-default
 returns-in_ok-lone_name-in-Some-Var-default c =
     let us = plain_tokens c.in-Some-Var-default.rest.now in
-    ap (reading start) (c.in-Some-Var-default.ensures ∙ ap (λ k. keyword k ∷ plain_tokens c.in-Some-Var-default.rest.now) c.in-Some-Var-default.field-0-0-is) ∙ c.in_ok-lone_name-in-Some-Var-default.ensures name_of_var plain.var
+    ap (reading start) (c.in-Some-Var-default.ensures ∙ ap (λ k. keyword k ∷ plain_tokens c.in-Some-Var-default.rest.now) c.in-Some-Var-default.field-0-0-is)
+    ∙ c.in_ok-lone_name-in-Some-Var-default.ensures name_of_var plain.var
     (wants_name name_of_var (λ x. finished (plain.var x)) us (λ t. refl) refl)
 
 pub lone_name-requires-in-Some-Param-default : goal.lone_name-requires-in-Some-Param-default
 lone_name-requires-in-Some-Param-default c = record {
   fit = fit_behind (plain_tokens c.args.tokens.now) (plain_tokens c.in-Some-Param-default.rest.now) (keyword word.Param)
-      (c.in-Some-Param-default.ensures ∙ ap (λ k. keyword k ∷ plain_tokens c.in-Some-Param-default.rest.now) c.in-Some-Param-default.field-0-0-is) c.requires.fit;
+      (c.in-Some-Param-default.ensures ∙ ap (λ k. keyword k ∷ plain_tokens c.in-Some-Param-default.rest.now)
+      c.in-Some-Param-default.field-0-0-is) c.requires.fit;
 }
 
 pub returns-in_err-lone_name-in-Some-Param-default : goal.returns-in_err-lone_name-in-Some-Param-default
 returns-in_err-lone_name-in-Some-Param-default c =
     let us = plain_tokens c.in-Some-Param-default.rest.now in
     passed_by_line plain.param line_of (reading name_of_param us) (reading start (plain_tokens c.args.tokens.now))
-    c.in_err-lone_name-in-Some-Param-default.field-0.0 c.from_residual-in_err-lone_name-in-Some-Param-default.result c.from_residual-in_err-lone_name-in-Some-Param-default.ensures
-    (ap (reading start) (c.in-Some-Param-default.ensures ∙ ap (λ k. keyword k ∷ plain_tokens c.in-Some-Param-default.rest.now) c.in-Some-Param-default.field-0-0-is)) (c.in_err-lone_name-in-Some-Param-default.ensures name_of_param plain.param
+    c.in_err-lone_name-in-Some-Param-default.field-0.0 c.from_residual-in_err-lone_name-in-Some-Param-default.result
+    c.from_residual-in_err-lone_name-in-Some-Param-default.ensures
+    (ap (reading start) (c.in-Some-Param-default.ensures
+    ∙ ap (λ k. keyword k ∷ plain_tokens c.in-Some-Param-default.rest.now) c.in-Some-Param-default.field-0-0-is))
+    (c.in_err-lone_name-in-Some-Param-default.ensures name_of_param plain.param
     (wants_name name_of_param (λ x. finished (plain.param x)) us (λ t. refl) refl))
 
 pub returns-in_ok-lone_name-in-Some-Param-default : goal.returns-in_ok-lone_name-in-Some-Param-default
 returns-in_ok-lone_name-in-Some-Param-default c =
     let us = plain_tokens c.in-Some-Param-default.rest.now in
-    ap (reading start) (c.in-Some-Param-default.ensures ∙ ap (λ k. keyword k ∷ plain_tokens c.in-Some-Param-default.rest.now) c.in-Some-Param-default.field-0-0-is) ∙ c.in_ok-lone_name-in-Some-Param-default.ensures name_of_param plain.param
+    ap (reading start) (c.in-Some-Param-default.ensures
+    ∙ ap (λ k. keyword k ∷ plain_tokens c.in-Some-Param-default.rest.now) c.in-Some-Param-default.field-0-0-is)
+    ∙ c.in_ok-lone_name-in-Some-Param-default.ensures name_of_param plain.param
     (wants_name name_of_param (λ x. finished (plain.param x)) us (λ t. refl) refl)
 
 pub function-requires : goal.function-requires
@@ -79,11 +92,13 @@ equation-requires c = record {
 pub assumption-requires : goal.assumption-requires
 assumption-requires c = record {
   fit = fit_behind (plain_tokens c.args.tokens.now) (plain_tokens c.in-Some-Assume-default.rest.now) (keyword word.Assume)
-      (c.in-Some-Assume-default.ensures ∙ ap (λ k. keyword k ∷ plain_tokens c.in-Some-Assume-default.rest.now) c.in-Some-Assume-default.field-0-0-is) c.requires.fit;
+      (c.in-Some-Assume-default.ensures ∙ ap (λ k. keyword k ∷ plain_tokens c.in-Some-Assume-default.rest.now)
+      c.in-Some-Assume-default.field-0-0-is) c.requires.fit;
 }
 
 pub assertion-requires : goal.assertion-requires
 assertion-requires c = record {
   fit = fit_behind (plain_tokens c.args.tokens.now) (plain_tokens c.in-Some-Claim-default.rest.now) (keyword word.Claim)
-      (c.in-Some-Claim-default.ensures ∙ ap (λ k. keyword k ∷ plain_tokens c.in-Some-Claim-default.rest.now) c.in-Some-Claim-default.field-0-0-is) c.requires.fit;
+      (c.in-Some-Claim-default.ensures ∙ ap (λ k. keyword k ∷ plain_tokens c.in-Some-Claim-default.rest.now)
+      c.in-Some-Claim-default.field-0-0-is) c.requires.fit;
 }

@@ -10,12 +10,15 @@ pub check-requires : goal.check-requires
 check-requires c =
     let lines = lines_of c.args.model.now in
     let are = ap lines_of c.deref-2.ensures.value ∙ c.in-Ok-numbered_by_place.ensures ∙ ap (λ items. carried_from 1 (lent_lines items)) c.deref.ensures.value in
-    subst HaveIdentifiers (sym are) (edited-identified lines (ops_of c.args.ops.now) c.in-Ok.changed c.text_of.ensures.checked.identifiers c.requires (changed_of c.in-Ok.changed c.args.model.now c.as_slice-lines.result.now (ops_of c.args.ops.now) (c.as_slice-lines.ensures.value ∙ c.text_of.ensures.lines) c.in-Ok.ensures))
+    subst HaveIdentifiers (sym are) (edited-identified lines (ops_of c.args.ops.now) c.in-Ok.changed c.text_of.ensures.checked.identifiers c.requires
+    (changed_of c.in-Ok.changed c.args.model.now c.as_slice-lines.result.now (ops_of c.args.ops.now)
+    (c.as_slice-lines.ensures.value ∙ c.text_of.ensures.lines) c.in-Ok.ensures))
 
 pub returns : goal.returns
 returns c =
     let lines = lines_of c.args.model.now in
     let are = ap lines_of c.deref-2.ensures.value ∙ c.in-Ok-numbered_by_place.ensures ∙ ap (λ items. carried_from 1 (lent_lines items)) c.deref.ensures.value in
     edited-fault (edit.changed_lines 1 (ops_of c.args.ops.now) (lines_alone lines)) c.in-Ok.changed c.deref-2.result.now c.in-Err-check.fault c.after.result
-    (changed_of c.in-Ok.changed c.args.model.now c.as_slice-lines.result.now (ops_of c.args.ops.now) (c.as_slice-lines.ensures.value ∙ c.text_of.ensures.lines) c.in-Ok.ensures)
+    (changed_of c.in-Ok.changed c.args.model.now c.as_slice-lines.result.now (ops_of c.args.ops.now)
+    (c.as_slice-lines.ensures.value ∙ c.text_of.ensures.lines) c.in-Ok.ensures)
     are c.in-Err-check.ensures c.after.ensures

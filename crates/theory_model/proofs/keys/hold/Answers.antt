@@ -7,8 +7,11 @@ use Rattle.theory_model.proofs.KeyedLemmas.{held_by, holds_new}
 use Rattle.theory_model.proofs.keys.hold.Goals as goal
 
 pub returns-then-contains_key : goal.returns-then-contains_key
-returns-then-contains_key c =
-    (refl, held_by (place_in c.args.places.now) c.as_slice-bytes.result.now (plain.key_of (line_of c.args.numbered.now.line)) (ap Some c.as_slice-bytes.ensures ∙ c.in-Some.ensures) (sym c.if-contains_key.ensures))
+returns-then-contains_key c = (
+  refl,
+  held_by (place_in c.args.places.now) c.as_slice-bytes.result.now (plain.key_of (line_of c.args.numbered.now.line))
+      (ap Some c.as_slice-bytes.ensures ∙ c.in-Some.ensures) (sym c.if-contains_key.ensures),
+)
 
 pub returns-in-Ok : goal.returns-in-Ok
 returns-in-Ok c =

@@ -7,6 +7,7 @@ use Rattle.theory_model.proofs.listing.listed_count.Given as goal
 abbrev pub invariant-loop-numbered : goal.invariant-loop-numbered
 invariant-loop-numbered l =
     record {
-      count : counted (l.count + length (listed_in l.shifted (lines_of (drop l.numbered-index l.lines)))) ≡ counted (length (listed_in l.shifted (lines_of l.lines)));
+      count : counted (l.count + length (listed_in l.shifted (lines_of (drop l.numbered-index l.lines)))) ≡ counted
+          (length (listed_in l.shifted (lines_of l.lines)));
       small : l.count < 2 ^ 64;
     }

@@ -6,4 +6,5 @@ use Rattle.theory_model.proofs.uses.+claim_findings.Given as goal
 
 abbrev pub invariant-all_findings-loop-claim : goal.invariant-all_findings-loop-claim
 invariant-all_findings-loop-claim l =
-    found_of_both l.all (found_in (lines_of l.keys.lines.now) (symbols_of_claims (members_of (drop l.claim-index l.claims)))) ≡ found_in (lines_of l.keys.lines.now) (symbols_of_claims (members_of l.claims))
+    found_of_both l.all (found_in (lines_of l.keys.lines.now) (symbols_of_claims (members_of (drop l.claim-index l.claims)))) ≡ found_in
+    (lines_of l.keys.lines.now) (symbols_of_claims (members_of l.claims))

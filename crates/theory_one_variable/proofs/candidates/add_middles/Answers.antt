@@ -11,7 +11,8 @@ middle-requires c =
 
 pub loop-k-preserved : goal.loop-k-preserved
 loop-k-preserved c =
-    middle_added c.args.roots.now _ _ _ c.loop-k.k _ _ _ c.middle.result (omega arith) c.loop-k-test.true c.index-roots-k.is c.index-roots-k-in-loop-k.is c.middle.ensures c.in_ok-push.ensures.items c.loop-k.invariant
+    middle_added c.args.roots.now _ _ _ c.loop-k.k _ _ _ c.middle.result (omega arith) c.loop-k-test.true c.index-roots-k.is c.index-roots-k-in-loop-k.is
+    c.middle.ensures c.in_ok-push.ensures.items c.loop-k.invariant
 
 pub returns : goal.returns
 returns c = all_added c.args.roots.now _ _ c.loop-k.k c.loop-k-test.false c.loop-k.invariant

@@ -6,4 +6,5 @@ use Rattle.theory_one_variable.proofs.halves.first_that_meets.Given as goal
 
 abbrev pub invariant-loop-at : goal.invariant-loop-at
 invariant-loop-at l =
-    find (λ q. assumptions_test l.rows q && beq (atom_test l.claim q) l.wanted) (drop l.at-index l.tried) ≡ find (λ q. assumptions_test l.rows q && beq (atom_test l.claim q) l.wanted) l.tried
+    find (λ q. assumptions_test l.rows q && beq (atom_test l.claim q) l.wanted) (drop l.at-index l.tried) ≡ find
+    (λ q. assumptions_test l.rows q && beq (atom_test l.claim q) l.wanted) l.tried

@@ -6,8 +6,10 @@ pub loop-row-preserved : goal.loop-row-preserved
 loop-row-preserved c =
     elim c.match-row.branch [
       | in-Assumption+in_ok-add_root-in-Assumption w ↦
-          rw w.roots-is (next_assumption c.args.rows.now c.loop-row.row-index c.row-item.result _ _ c.loop-row-test.true c.row-item.is w.in-Assumption.is w.in_ok-add_root-in-Assumption.ensures c.loop-row.invariant)
-      | in-Claim w ↦ rw w.roots-is (next_claim c.args.rows.now c.loop-row.row-index c.row-item.result _ c.loop-row-test.true c.row-item.is w.in-Claim.is c.loop-row.invariant)
+          rw w.roots-is (next_assumption c.args.rows.now c.loop-row.row-index c.row-item.result _ _ c.loop-row-test.true c.row-item.is w.in-Assumption.is
+          w.in_ok-add_root-in-Assumption.ensures c.loop-row.invariant)
+      | in-Claim w ↦ rw w.roots-is (next_claim c.args.rows.now c.loop-row.row-index c.row-item.result _ c.loop-row-test.true c.row-item.is w.in-Claim.is
+          c.loop-row.invariant)
     ]
 
 pub returns : goal.returns

@@ -6,7 +6,8 @@ use Rattle.theory_points.proofs.between.simplest_between.Goals as goal
 use Rattle.theory_points.proofs.between.simplest_between.Goals.{After-simplest_of_magnitudes-top}
 
 -- what is computed in the mirrored case is the opposite numerator and the same denominator
-opposite : (c : After-simplest_of_magnitudes-top) → to_z w64 (of_z w64 (pos 0 -ℤ to_z w64 (of_z w64 c.simplest_of_magnitudes-top.result.0))) ≡ neg_ℤ c.simplest_of_magnitudes-top.result.0
+opposite : (c : After-simplest_of_magnitudes-top) →
+    to_z w64 (of_z w64 (pos 0 -ℤ to_z w64 (of_z w64 c.simplest_of_magnitudes-top.result.0))) ≡ neg_ℤ c.simplest_of_magnitudes-top.result.0
 opposite c = omega (arith, ints)
 
 same : (c : After-simplest_of_magnitudes-top) → to_z w64 (of_z w64 c.simplest_of_magnitudes-top.result.1) ≡ c.simplest_of_magnitudes-top.result.1

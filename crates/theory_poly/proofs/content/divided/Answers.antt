@@ -12,7 +12,8 @@ quotient-requires-clause-divides c =
     let x = (get_or c.args.terms.now c.loop-t.t-index nothing).coefficient in
     let h = height_at c.args.terms.now c.loop-t.t-index nothing c.loop-t-test.true in
     let same : to_z w128 (of_z w128 x) ≡ x = omega (arith, ints, h, c.requires.small) in
-    subst (λ z. c.args.divisor ∣ unsigned_abs z) (sym same) (each_at c.args.divisor c.args.terms.now c.loop-t.t-index nothing c.loop-t-test.true c.requires.divides)
+    subst (λ z. c.args.divisor ∣ unsigned_abs z) (sym same)
+    (each_at c.args.divisor c.args.terms.now c.loop-t.t-index nothing c.loop-t-test.true c.requires.divides)
 
 pub quotient-requires-clause-small : goal.quotient-requires-clause-small
 quotient-requires-clause-small c =

@@ -15,4 +15,5 @@ pub loop-t-preserved : goal.loop-t-preserved
 loop-t-preserved c =
     let fits : SFits w128 (get_or c.args.terms.now c.loop-t.t-index nothing).coefficient = search rules in
     divisor_more c.args.terms.now c.loop-t.t-index nothing c.loop-t.common c.common_divisor-common.result c.loop-t-test.true c.loop-t.invariant
-    (subst (λ n. IsGcd c.loop-t.common n c.common_divisor-common.result) (c.unsigned_abs.ensures.value ∙ ap unsigned_abs (to_z-of_z fits)) c.common_divisor-common.ensures)
+    (subst (λ n. IsGcd c.loop-t.common n c.common_divisor-common.result) (c.unsigned_abs.ensures.value ∙ ap unsigned_abs (to_z-of_z fits))
+    c.common_divisor-common.ensures)

@@ -19,7 +19,8 @@ loop-t-preserved c =
     let size = c.unsigned_abs.ensures.value ∙ ap unsigned_abs (to_z-of_z fits) in
     let some = subst (λ n. 0 < n) (sym size) (nonzero_at c.args.terms.now c.loop-t.t-index nothing c.loop-t-test.true c.requires.terms) in
     record {
-      divisor = with_more c.args.start c.args.terms.now c.loop-t.t-index nothing c.loop-t.common c.common_divisor-common.result c.loop-t-test.true c.loop-t.invariant.divisor
+      divisor = with_more c.args.start c.args.terms.now c.loop-t.t-index nothing c.loop-t.common c.common_divisor-common.result c.loop-t-test.true
+          c.loop-t.invariant.divisor
           (subst (λ n. IsGcd c.loop-t.common n c.common_divisor-common.result) size c.common_divisor-common.ensures);
       positive = pos_of_dvd_of_pos c.common_divisor-common.ensures.1 some;
     }

@@ -15,7 +15,9 @@ returns-then-coefficient-lt0 c =
     let small = div-le_self c.unsigned_abs.result c.args.divisor in
     let form : to_z w128 (of_z w128 (pos 0 -ℤ to_z w128 q)) ≡ neg_ℤ (pos q) = omega (arith, ints, small, c.unsigned_abs.ensures.value, c.requires.small) in
     ap (λ z. pos c.args.divisor *ℤ z) form
-    ∙ quotient_of_negative c.args.coefficient c.args.divisor c.unsigned_abs.result (lt_from_test c.args.coefficient (pos 0) (subst (λ z. int_lt z (pos 0) ≡ true) same c.if-coefficient-lt0.true)) c.requires.divides (c.unsigned_abs.ensures.value ∙ ap unsigned_abs same)
+    ∙ quotient_of_negative c.args.coefficient c.args.divisor c.unsigned_abs.result
+    (lt_from_test c.args.coefficient (pos 0) (subst (λ z. int_lt z (pos 0) ≡ true) same c.if-coefficient-lt0.true)) c.requires.divides
+    (c.unsigned_abs.ensures.value ∙ ap unsigned_abs same)
 
 pub returns-else-coefficient-lt0 : goal.returns-else-coefficient-lt0
 returns-else-coefficient-lt0 c =
@@ -24,4 +26,6 @@ returns-else-coefficient-lt0 c =
     let small = div-le_self c.unsigned_abs.result c.args.divisor in
     let form : to_z w128 q ≡ pos q = omega (arith, ints, small, c.unsigned_abs.ensures.value, c.requires.small) in
     ap (λ z. pos c.args.divisor *ℤ z) form
-    ∙ quotient_of_positive c.args.coefficient c.args.divisor c.unsigned_abs.result (le_from_test c.args.coefficient (pos 0) (subst (λ z. int_lt z (pos 0) ≡ false) same c.if-coefficient-lt0.false)) c.requires.divides (c.unsigned_abs.ensures.value ∙ ap unsigned_abs same)
+    ∙ quotient_of_positive c.args.coefficient c.args.divisor c.unsigned_abs.result
+    (le_from_test c.args.coefficient (pos 0) (subst (λ z. int_lt z (pos 0) ≡ false) same c.if-coefficient-lt0.false)) c.requires.divides
+    (c.unsigned_abs.ensures.value ∙ ap unsigned_abs same)

@@ -7,9 +7,11 @@ judged-requires c = (divided_of c.args.terms.now c.in_ok-least.least.items c.der
 pub returns-clause-value : goal.returns-clause-value
 returns-clause-value c =
     answers_divided c.args.terms.now c.deref.result.now c.judged.result
-    (divided_of c.args.terms.now c.in_ok-least.least.items c.deref.result.now c.requires.ordered c.in_ok-least.ensures c.deref.ensures.value) c.judged.ensures.value
+    (divided_of c.args.terms.now c.in_ok-least.least.items c.deref.result.now c.requires.ordered c.in_ok-least.ensures c.deref.ensures.value)
+    c.judged.ensures.value
 
 pub returns-clause-wide : goal.returns-clause-wide
 returns-clause-wide c =
     answers_divided_wide c.args.terms.now c.deref.result.now c.judged.result c.requires.ordered
-    (divided_of c.args.terms.now c.in_ok-least.least.items c.deref.result.now c.requires.ordered c.in_ok-least.ensures c.deref.ensures.value) c.judged.ensures.wide
+    (divided_of c.args.terms.now c.in_ok-least.least.items c.deref.result.now c.requires.ordered c.in_ok-least.ensures c.deref.ensures.value)
+    c.judged.ensures.wide

@@ -16,5 +16,7 @@ pub returns : goal.returns
 returns c =
     let some : c.args.n ≢ pos 0 = λ e. c.if-n-eq0.false (ap (of_z w64) e) in
     let n_is : to_z w64 (of_z w64 c.args.n) ≡ c.args.n = omega (arith, ints, c.ranges.n) in
-    IfOk-weaker c.multiplied.result (λ r. r.items ≡ scaled (to_z w64 (of_z w64 c.args.n)) c.args.terms.now) (λ r. IsGathered (scaled c.args.n c.args.terms.now) (2 ^ 116) r.items)
-    (λ r is. gathered_multiple c.args.n c.args.terms.now r.items some c.requires.factor c.requires.terms (is ∙ ap (λ z. scaled z c.args.terms.now) n_is)) c.multiplied.ensures
+    IfOk-weaker c.multiplied.result (λ r. r.items ≡ scaled (to_z w64 (of_z w64 c.args.n)) c.args.terms.now)
+    (λ r. IsGathered (scaled c.args.n c.args.terms.now) (2 ^ 116) r.items)
+    (λ r is. gathered_multiple c.args.n c.args.terms.now r.items some c.requires.factor c.requires.terms (is ∙ ap (λ z. scaled z c.args.terms.now) n_is))
+    c.multiplied.ensures

@@ -36,8 +36,10 @@ loop-t-preserved c =
     let less = quotient_small c.args.divisor c.quotient.result x c.requires.positive exact in
     let back : to_z w64 (of_z w64 (to_z w128 (of_z w128 c.quotient.result))) ≡ c.quotient.result = omega (arith, ints, less, small) in
     record {
-      done = divided_more c.args.divisor c.args.terms.now c.loop-t.terms i nothing (to_z w64 (of_z w64 (to_z w128 (of_z w128 c.quotient.result)))) c.quotient.result
+      done = divided_more c.args.divisor c.args.terms.now c.loop-t.terms i nothing
+          (to_z w64 (of_z w64 (to_z w128 (of_z w128 c.quotient.result)))) c.quotient.result
           there here c.loop-t.invariant.done c.loop-t.invariant.left back exact;
-      left = left_more c.args.terms.now c.loop-t.terms i (monomial (to_z w64 (of_z w64 (to_z w128 (of_z w128 c.quotient.result)))) (get_or c.loop-t.terms i nothing).powers)
+      left = left_more c.args.terms.now c.loop-t.terms i (monomial (to_z w64 (of_z w64 (to_z w128 (of_z w128 c.quotient.result))))
+          (get_or c.loop-t.terms i nothing).powers)
           there here c.loop-t.invariant.left;
     }

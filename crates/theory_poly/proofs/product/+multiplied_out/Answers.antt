@@ -11,7 +11,8 @@ pub returns-then-a-eq1 : goal.returns-then-a-eq1
 returns-then-a-eq1 t c =
     IfOk-weaker c.row.result (λ r. r.items ≡ multiple_of (get_or c.args.a.now 0 nothing) c.args.b.now)
     (λ r. IsGathered (product_of c.args.a.now c.args.b.now) (length c.args.a.now * 2 ^ 116) r.items)
-    (λ r is. gathered_row (get_or c.args.a.now 0 nothing) c.args.a.now c.args.b.now r.items (kept_term c.args.a.now 0 nothing (omega (arith, c.if-a-eq1.true)) c.requires.first)
+    (λ r is. gathered_row (get_or c.args.a.now 0 nothing) c.args.a.now c.args.b.now r.items
+    (kept_term c.args.a.now 0 nothing (omega (arith, c.if-a-eq1.true)) c.requires.first)
     c.requires.second (only_one c.args.a.now nothing c.if-a-eq1.true) is) c.row.ensures
 
 pub multiplied_out-requires : goal.multiplied_out-requires
@@ -31,7 +32,8 @@ multiplied_out-requires-2 t c =
 
 pub returns : goal.returns
 returns t c =
-    IfOk-weaker c.merged.result (λ r. IsGathered (sum_of c.deref.result.now c.deref-2.result.now) (height_of c.deref.result.now + height_of c.deref-2.result.now) r.items)
+    IfOk-weaker c.merged.result (λ r. IsGathered (sum_of c.deref.result.now c.deref-2.result.now)
+    (height_of c.deref.result.now + height_of c.deref-2.result.now) r.items)
     (λ r. IsGathered (product_of c.args.a.now c.args.b.now) (length c.args.a.now * 2 ^ 116) r.items)
     (λ r g. gathered_product (length c.args.a.now / 2) c.args.a.now c.args.b.now _ _ c.in_ok-left.left.items c.in_ok-right.right.items
     c.deref.result.now c.deref-2.result.now r.items refl (take_rest c.args.a.now (length c.args.a.now / 2)) c.in_ok-left.ensures c.in_ok-right.ensures

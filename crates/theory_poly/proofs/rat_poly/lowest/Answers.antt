@@ -16,7 +16,8 @@ returns-then-below-divisor-gt-W-clause-wide c = (
 
 pub judged-requires : goal.judged-requires
 judged-requires c =
-    let form = lowest_by_division c.args.terms.now c.in_ok-least.least.items c.args.below c.divisor_with-divisor.result (c.args.below / c.divisor_with-divisor.result)
+    let form = lowest_by_division c.args.terms.now c.in_ok-least.least.items c.args.below c.divisor_with-divisor.result
+    (c.args.below / c.divisor_with-divisor.result)
     c.requires.ordered c.requires.positive c.divisor_with-divisor.ensures.value c.in_ok-least.ensures refl in
     subst IsPolynomial (sym c.deref.ensures.value) form.lowest.ordered
 
@@ -42,8 +43,10 @@ returns-in-Ok-clause-value c = lowest_form c
 
 pub returns-in-Ok-clause-wide : goal.returns-in-Ok-clause-wide
 returns-in-Ok-clause-wide c =
-    not_quotient_beyond (quotient_of c.args.terms.now c.args.below) (quotient_of c.in-Ok.top (c.args.below / c.divisor_with-divisor.result)) c.requires.positive (lowest_form c)
-    (kept_is_no_passing (quotient_of c.in-Ok.top (c.args.below / c.divisor_with-divisor.result)) (kept_quotient (quotient_of c.args.terms.now c.args.below) c.in-Ok.top c.in-Ok.top
+    not_quotient_beyond (quotient_of c.args.terms.now c.args.below) (quotient_of c.in-Ok.top (c.args.below / c.divisor_with-divisor.result))
+    c.requires.positive (lowest_form c)
+    (kept_is_no_passing (quotient_of c.in-Ok.top (c.args.below / c.divisor_with-divisor.result))
+    (kept_quotient (quotient_of c.args.terms.now c.args.below) c.in-Ok.top c.in-Ok.top
     (c.args.below / c.divisor_with-divisor.result) (lowest_form c) refl
     (λ passes. c.in-Ok.ensures.wide (subst PassesLimit c.in-Ok.ensures.value passes)) (omega (arith, c.if-below-divisor-gt-W.false))))
 

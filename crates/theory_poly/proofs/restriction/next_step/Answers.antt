@@ -23,8 +23,10 @@ raised_fits : (c : goal.After-drop-all) → unsigned_abs c.product-raised.result
 raised_fits c =
     let wide : to_z w128 (of_z w128 c.product-raised.result) ≡ c.product-raised.result = omega (arith, ints, c.product-raised.ensures.small) in
     let under : c.product-raised.result ≤ℤ pos 288230376151711744 =
-    subst (λ z. z ≤ℤ pos 288230376151711744) wide (le_from_test (pos 288230376151711744) (to_z w128 (of_z w128 c.product-raised.result)) c.if-raised-gt-W.false) in
-    let low : pos 0 ≤ℤ c.product-raised.result = subst (λ z. pos 0 ≤ℤ z) (sym (raised_is c)) (not_below_zero c.args.power (den c.args.value.now) c.requires.low) in
+    subst (λ z. z ≤ℤ pos 288230376151711744) wide (le_from_test (pos 288230376151711744) (to_z w128 (of_z w128 c.product-raised.result))
+    c.if-raised-gt-W.false) in
+    let low : pos 0 ≤ℤ c.product-raised.result = subst (λ z. pos 0 ≤ℤ z) (sym (raised_is c))
+    (not_below_zero c.args.power (den c.args.value.now) c.requires.low) in
     omega (arith, ints, under, low)
 
 raised_cast : (c : goal.After-drop-all) → to_z w64 (of_z w64 (to_z w128 (of_z w128 c.product-raised.result))) ≡ c.product-raised.result
@@ -32,7 +34,8 @@ raised_cast c = let fits = raised_fits c in omega (arith, ints, fits)
 
 -- what was gathered
 gathered : (c : goal.After-drop-all)
-    → IsPolynomialOf (sum_of (scaled c.args.value.now.num c.args.sum.now) (scaled (c.args.power *ℤ pos (den c.args.value.now)) c.args.next.now)) c.in_ok-all.all.items
+    → IsPolynomialOf (sum_of (scaled c.args.value.now.num c.args.sum.now) (scaled (c.args.power *ℤ pos (den c.args.value.now)) c.args.next.now))
+    c.in_ok-all.all.items
 gathered c =
     let num : to_z w64 (of_z w64 c.num.result) ≡ c.args.value.now.num = omega (arith, ints, c.num.ensures.value, c.num.ensures.kept.within.top) in
     gathered_step c.args.value.now c.args.sum.now c.args.power c.args.next.now (to_z w64 (of_z w64 c.num.result))
@@ -51,8 +54,10 @@ raised_fits_refused : (c : goal.After-drop-all-2) → unsigned_abs c.product-rai
 raised_fits_refused c =
     let wide : to_z w128 (of_z w128 c.product-raised.result) ≡ c.product-raised.result = omega (arith, ints, c.product-raised.ensures.small) in
     let under : c.product-raised.result ≤ℤ pos 288230376151711744 =
-    subst (λ z. z ≤ℤ pos 288230376151711744) wide (le_from_test (pos 288230376151711744) (to_z w128 (of_z w128 c.product-raised.result)) c.if-raised-gt-W.false) in
-    let low : pos 0 ≤ℤ c.product-raised.result = subst (λ z. pos 0 ≤ℤ z) (sym (raised_is_refused c)) (not_below_zero c.args.power (den c.args.value.now) c.requires.low) in
+    subst (λ z. z ≤ℤ pos 288230376151711744) wide (le_from_test (pos 288230376151711744) (to_z w128 (of_z w128 c.product-raised.result))
+    c.if-raised-gt-W.false) in
+    let low : pos 0 ≤ℤ c.product-raised.result = subst (λ z. pos 0 ≤ℤ z) (sym (raised_is_refused c))
+    (not_below_zero c.args.power (den c.args.value.now) c.requires.low) in
     omega (arith, ints, under, low)
 
 raised_cast_refused : (c : goal.After-drop-all-2) → to_z w64 (of_z w64 (to_z w128 (of_z w128 c.product-raised.result))) ≡ c.product-raised.result
@@ -60,7 +65,8 @@ raised_cast_refused c = let fits = raised_fits_refused c in omega (arith, ints, 
 
 -- what was gathered, where the sum is refused
 gathered_refused : (c : goal.After-drop-all-2)
-    → IsPolynomialOf (sum_of (scaled c.args.value.now.num c.args.sum.now) (scaled (c.args.power *ℤ pos (den c.args.value.now)) c.args.next.now)) c.in_ok-all.all.items
+    → IsPolynomialOf (sum_of (scaled c.args.value.now.num c.args.sum.now) (scaled (c.args.power *ℤ pos (den c.args.value.now)) c.args.next.now))
+    c.in_ok-all.all.items
 gathered_refused c =
     let num : to_z w64 (of_z w64 c.num.result) ≡ c.args.value.now.num = omega (arith, ints, c.num.ensures.value, c.num.ensures.kept.within.top) in
     gathered_step c.args.value.now c.args.sum.now c.args.power c.args.next.now (to_z w64 (of_z w64 c.num.result))
@@ -69,7 +75,8 @@ gathered_refused c =
 
 pub returns-in-Ok-clause-value : goal.returns-in-Ok-clause-value
 returns-in-Ok-clause-value c = record {
-  polynomial = subst (IsPolynomialOf (sum_of (scaled c.args.value.now.num c.args.sum.now) (scaled (c.args.power *ℤ pos (den c.args.value.now)) c.args.next.now)))
+  polynomial = subst (IsPolynomialOf (sum_of (scaled c.args.value.now.num c.args.sum.now)
+      (scaled (c.args.power *ℤ pos (den c.args.value.now)) c.args.next.now)))
       (sym (c.in-Ok.ensures.value ∙ c.deref.ensures.value)) (gathered c);
   power_is = raised_cast c ∙ raised_is c;
   small = subst (λ z. unsigned_abs z ≤ bound) (sym (raised_cast c)) (raised_fits c);

@@ -8,7 +8,8 @@ add_ends_of_all-loop-member-init t c = record { linear = c.requires.linear; ends
 
 pub add_ends_of_all-loop-member-preserved : goal.add_ends_of_all-loop-member-preserved
 add_ends_of_all-loop-member-preserved t c =
-    adds_next c.args.x c.loop-member.member-index c.args.members.now c.member-item.result (points_of c.args.points.now.items) (points_of c.loop-member.points.items)
+    adds_next c.args.x c.loop-member.member-index c.args.members.now c.member-item.result (points_of c.args.points.now.items)
+    (points_of c.loop-member.points.items)
     (points_of c.add_ends.new.points.items) c.loop-member-test.true c.member-item.is c.loop-member.invariant c.in_ok-add_ends.ensures
 
 pub add_ends_of_all-returns : goal.add_ends_of_all-returns

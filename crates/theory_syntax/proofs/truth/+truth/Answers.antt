@@ -19,6 +19,7 @@ truth-returns-in_ok-value-in-Atom-2 t c =
     let layer : claim_of c.args.claim.now ≡ plain.atom (expr_of u) c.in-Atom.rel (expr_of v) =
     ap claim_of (c.in-Atom.is ∙ sym (rolls-Atom u c.in-Atom.rel v)) ∙ fold-roll-Claim plain.Claim claim_step (Claim-F.Atom u c.in-Atom.rel v) in
     subst (λ e. (c.compares.result ≡ truth_of e p) × ¬ HasWidePart e p) (sym layer) (
-      c.compares.ensures ∙ holds_respects c.in-Atom.rel c.in_ok-value-in-Atom.field-0 (value_of (expr_of u) p) c.in_ok-value-in-Atom-2.field-0 (value_of (expr_of v) p) left.same right.same,
+      c.compares.ensures ∙ holds_respects c.in-Atom.rel c.in_ok-value-in-Atom.field-0 (value_of (expr_of u) p) c.in_ok-value-in-Atom-2.field-0
+          (value_of (expr_of v) p) left.same right.same,
       ⊎_elim left.narrow right.narrow,
     )

@@ -26,5 +26,6 @@ pub returns-in_default : goal.returns-in_default
 returns-in_default c =
     elim c.in_default.branch [
       | in_default-via-in-33+in-None w ↦ λ n. bang_next _ n _ c.requires.word w.in_default.is-0 (c.behind_equals.ensures.none w.in_default.is-1)
-      | in_default-via-in_default w ↦ let h = w.in_default.is-0 in λ n. other_next _ n _ c.requires.word c.requires.mark (no_comparison _ h.0.0.0.1 h.0.0.1 h.0.1 h.1)
+      | in_default-via-in_default w ↦ let h = w.in_default.is-0 in
+          λ n. other_next _ n _ c.requires.word c.requires.mark (no_comparison _ h.0.0.0.1 h.0.0.1 h.0.1 h.1)
     ]

@@ -5,14 +5,17 @@ use Rattle.theory_points.proofs.PointLemmas.{written_at, within_place, added_at}
 
 pub index_mut-requires : goal.index_mut-requires
 index_mut-requires c =
-    let found : Some c.in-Some.k ≡ place_in c.self.inside.entries.items c.args.name = c.in-Some.ensures ∙ ap (λ es. place_in es c.args.name) c.deref.ensures.value in
+    let found : Some c.in-Some.k ≡ place_in c.self.inside.entries.items c.args.name = c.in-Some.ensures
+    ∙ ap (λ es. place_in es c.args.name) c.deref.ensures.value in
     let within = within_place c.self.inside.entries.items c.in-Some.k c.args.name found in
     omega (arith, within, c.self.inside.entries.ok.0)
 
 pub returns-in-Some-clause-ok : goal.returns-in-Some-clause-ok
 returns-in-Some-clause-ok c =
-    let found : Some c.in-Some.k ≡ place_in c.self.inside.entries.items c.args.name = c.in-Some.ensures ∙ ap (λ es. place_in es c.args.name) c.deref.ensures.value in
-    (written_at c.self.inside.entries.items c.args.self.now c.in-Some.k c.args.name c.args.value c.index_mut.result.now c.self.view_is found c.index_mut.ensures.value).1
+    let found : Some c.in-Some.k ≡ place_in c.self.inside.entries.items c.args.name = c.in-Some.ensures
+    ∙ ap (λ es. place_in es c.args.name) c.deref.ensures.value in
+    (written_at c.self.inside.entries.items c.args.self.now c.in-Some.k c.args.name c.args.value c.index_mut.result.now c.self.view_is found
+    c.index_mut.ensures.value).1
 
 pub returns-in_ok-push-in-None-clause-ok : goal.returns-in_ok-push-in-None-clause-ok
 returns-in_ok-push-in-None-clause-ok c =

@@ -10,7 +10,8 @@ gathered : (c : goal.After-drop-all) → IsPolynomialOf (sum_of c.args.self.now 
 gathered c =
     let all = subst₂ (λ a b. IsGathered (sum_of (scaled (pos 1) a) (scaled (pos 1) b)) (2 ^ 117) c.in_ok-all.all.items)
     c.as_slice.ensures.value c.as_slice-2.ensures.value c.in_ok-all.ensures in
-    polynomial_of_same (sum_of (scaled (pos 1) c.args.self.now) (scaled (pos 1) c.args.other.now)) (sum_of c.args.self.now c.args.other.now) c.in_ok-all.all.items
+    polynomial_of_same (sum_of (scaled (pos 1) c.args.self.now) (scaled (pos 1) c.args.other.now)) (sum_of c.args.self.now c.args.other.now)
+    c.in_ok-all.all.items
     (once_each c.args.self.now c.args.other.now) all.ordered
 
 pub returns-clause-value : goal.returns-clause-value

@@ -9,8 +9,10 @@ use Rattle.theory_poly.proofs.poly.Poly.restrict.Goals as goal
 -- what is left is the restriction
 written : (c : goal.After-drop-last-inside-2) → IsRestriction c.args.x c.args.value.now c.args.self.now c.in_ok-least.least
 written c =
-    unturned_is_primitive (restriction_step c.args.x c.args.value.now c.args.self.now (degree_in c.args.x c.args.self.now)) c.in-Ok.last c.as_slice-2.result.now c.in_ok-least.least
-    (subst (λ z. IsPolynomialOf (restriction_step c.args.x c.args.value.now z (degree_in c.args.x z)) c.in-Ok.last) c.as_slice.ensures.value c.in-Ok.ensures.value)
+    unturned_is_primitive (restriction_step c.args.x c.args.value.now c.args.self.now (degree_in c.args.x c.args.self.now)) c.in-Ok.last
+    c.as_slice-2.result.now c.in_ok-least.least
+    (subst (λ z. IsPolynomialOf (restriction_step c.args.x c.args.value.now z (degree_in c.args.x z)) c.in-Ok.last) c.as_slice.ensures.value
+    c.in-Ok.ensures.value)
     c.as_slice-2.ensures.value (subst IsKept (sym c.as_slice-2.ensures.value) c.as_slice-2.ensures.kept) c.in_ok-least.ensures
 
 pub returns-clause-written : goal.returns-clause-written

@@ -10,7 +10,8 @@ gathered : (c : goal.After-drop-all) → IsPolynomialOf (difference_of c.args.se
 gathered c =
     let all = subst₂ (λ a b. IsGathered (sum_of (scaled (pos 1) a) (scaled (negsuc 0) b)) (2 ^ 117) c.in_ok-all.all.items)
     c.as_slice.ensures.value c.as_slice-2.ensures.value c.in_ok-all.ensures in
-    polynomial_of_same (sum_of (scaled (pos 1) c.args.self.now) (scaled (negsuc 0) c.args.other.now)) (difference_of c.args.self.now c.args.other.now) c.in_ok-all.all.items
+    polynomial_of_same (sum_of (scaled (pos 1) c.args.self.now) (scaled (negsuc 0) c.args.other.now)) (difference_of c.args.self.now c.args.other.now)
+    c.in_ok-all.all.items
     (second_turned c.args.self.now c.args.other.now) all.ordered
 
 pub returns-clause-value : goal.returns-clause-value

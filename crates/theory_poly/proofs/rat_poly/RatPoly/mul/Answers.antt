@@ -9,21 +9,26 @@ use Rattle.theory_poly.proofs.rat_poly.RatPoly.mul.Goals as goal
 -- what was gathered, and the number below it
 top_is : (c : goal.After-drop-all) → AreSame c.deref.result.now (product_of_quotients c.args.self.now c.args.other.now).top
 top_is c =
-    top_of_product c.args.self.now c.args.other.now c.as_slice.result.now c.as_slice-2.result.now c.in_ok-all.all.items c.deref.result.now (length c.as_slice.result.now * 2 ^ 116)
+    top_of_product c.args.self.now c.args.other.now c.as_slice.result.now c.as_slice-2.result.now c.in_ok-all.all.items c.deref.result.now
+    (length c.as_slice.result.now * 2 ^ 116)
     (c.as_slice.ensures.value ∙ c.top.ensures.value) (c.as_slice-2.ensures.value ∙ c.top-2.ensures.value) c.in_ok-all.ensures c.deref.ensures.value
 
 below_is : (c : goal.After-drop-all) → c.product_below.result ≡ c.args.self.now.below * c.args.other.now.below
 below_is c =
-    let first : unsigned_abs (to_z w64 (of_z w64 c.below.result)) ≡ c.args.self.now.below = omega (arith, ints, c.below.ensures.value, c.below.ensures.kept.within.below) in
-    let second : unsigned_abs (to_z w64 (of_z w64 c.below-2.result)) ≡ c.args.other.now.below = omega (arith, ints, c.below-2.ensures.value, c.below-2.ensures.kept.within.below) in
+    let first : unsigned_abs (to_z w64 (of_z w64 c.below.result)) ≡ c.args.self.now.below = omega
+    (arith, ints, c.below.ensures.value, c.below.ensures.kept.within.below) in
+    let second : unsigned_abs (to_z w64 (of_z w64 c.below-2.result)) ≡ c.args.other.now.below = omega
+    (arith, ints, c.below-2.ensures.value, c.below-2.ensures.kept.within.below) in
     c.product_below.ensures.value ∙ ap₂ ◌*◌ first second
 
 pub returns-clause-value : goal.returns-clause-value
 returns-clause-value c =
-    answers_lowest c.deref.result.now (product_of_quotients c.args.self.now c.args.other.now).top c.product_below.result (c.args.self.now.below * c.args.other.now.below) c.lowest.result
+    answers_lowest c.deref.result.now (product_of_quotients c.args.self.now c.args.other.now).top c.product_below.result
+    (c.args.self.now.below * c.args.other.now.below) c.lowest.result
     (top_is c) (below_is c) c.lowest.ensures.value
 
 pub returns-clause-wide : goal.returns-clause-wide
 returns-clause-wide c =
-    answers_lowest_wide c.deref.result.now (product_of_quotients c.args.self.now c.args.other.now).top c.product_below.result (c.args.self.now.below * c.args.other.now.below) c.lowest.result
+    answers_lowest_wide c.deref.result.now (product_of_quotients c.args.self.now c.args.other.now).top c.product_below.result
+    (c.args.self.now.below * c.args.other.now.below) c.lowest.result
     (top_is c) (below_is c) c.lowest.ensures.wide

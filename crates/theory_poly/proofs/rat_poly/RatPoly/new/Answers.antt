@@ -13,7 +13,8 @@ invariant_of-result c =
     new_is_kept c.args.poly c.divided_by.result c.as_slice.result.now (unsigned_abs c.args.below) c.divisor_of_narrow-divisor.result
     (unsigned_abs (to_z w64 (of_z w64 c.args.below)) / c.divisor_of_narrow-divisor.result) c.as_slice.ensures.kept c.requires.high positive
     c.divisor_of_narrow-divisor.ensures.positive c.as_slice.ensures.value
-    (subst (λ z. IsGreatestWith (unsigned_abs z) c.as_slice.result.now c.divisor_of_narrow-divisor.result) cast c.divisor_of_narrow-divisor.ensures.value) c.divided_by.ensures
+    (subst (λ z. IsGreatestWith (unsigned_abs z) c.as_slice.result.now c.divisor_of_narrow-divisor.result) cast c.divisor_of_narrow-divisor.ensures.value)
+    c.divided_by.ensures
     (ap (λ z. unsigned_abs z / c.divisor_of_narrow-divisor.result) cast)
 
 pub returns : goal.returns
@@ -23,5 +24,6 @@ returns c =
     lowest_by_division c.args.poly c.divided_by.result (unsigned_abs c.args.below) c.divisor_of_narrow-divisor.result
     (unsigned_abs (to_z w64 (of_z w64 c.args.below)) / c.divisor_of_narrow-divisor.result) c.as_slice.ensures.kept.ordered positive
     (subst (λ y. IsGreatestWith (unsigned_abs c.args.below) y c.divisor_of_narrow-divisor.result) c.as_slice.ensures.value
-    (subst (λ z. IsGreatestWith (unsigned_abs z) c.as_slice.result.now c.divisor_of_narrow-divisor.result) cast c.divisor_of_narrow-divisor.ensures.value)) c.divided_by.ensures
+    (subst (λ z. IsGreatestWith (unsigned_abs z) c.as_slice.result.now c.divisor_of_narrow-divisor.result) cast c.divisor_of_narrow-divisor.ensures.value))
+    c.divided_by.ensures
     (ap (λ z. unsigned_abs z / c.divisor_of_narrow-divisor.result) cast)
