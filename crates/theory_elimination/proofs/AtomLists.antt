@@ -3,13 +3,13 @@ use Rattle.std.proofs.Common.{◌≡◌, ℕ, List, [], ◌∷◌, ◌++◌, sym
 use Rattle.std.specs.Prelude.{IsTrue}
 use Rattle.theory_meaning.specs.Fraction.{Fraction}
 use Rattle.theory_meaning.proofs.OrderLaws.{same_itself}
-use Rattle.theory_method.specs.declared.signs.Signs.{Signs}
-use Rattle.theory_method.specs.Signs.{has}
-use Rattle.theory_method.specs.Polynomial.{Monomial}
-use Rattle.theory_method.specs.PolynomialValue.{Values, symbol_at}
-use Rattle.theory_method.specs.Formula.{Formula, Formulas, always, never, atom, conjunction, disjunction, none, more, Reading, truth_at, truth_by, reading_at, EachAtom, EachAtomOfAll, StaysTrue}
-use Rattle.theory_method.specs.FormulaAtoms.{atoms_of, atoms_of_all}
-use Rattle.theory_method.proofs.FormulaLaws.{kept}
+use Rattle.theory_formula.specs.declared.signs.Signs.{Signs}
+use Rattle.theory_formula.specs.Signs.{has}
+use Rattle.theory_polynomial.specs.Polynomial.{Monomial}
+use Rattle.theory_polynomial.specs.PolynomialValue.{Values, symbol_at}
+use Rattle.theory_formula.specs.Formula.{Formula, Formulas, always, never, atom, conjunction, disjunction, none, more, Reading, truth_at, truth_by, reading_at, EachAtom, EachAtomOfAll, StaysTrue}
+use Rattle.theory_formula.specs.FormulaAtoms.{atoms_of, atoms_of_all}
+use Rattle.theory_formula.proofs.FormulaLaws.{kept}
 use Rattle.theory_elimination.specs.Elimination.{with_value, IsLinearAtom, IsLinear}
 use Rattle.theory_elimination.proofs.Cuts.{on}
 use Rattle.theory_elimination.proofs.LineSigns.{sign_is_on_line, sign_with_value}

@@ -4,8 +4,8 @@ use Rattle.std.proofs.Math.IntN.{*ℤ_comm}
 use Rattle.theory_meaning.proofs.WholeLaws.{neg-times}
 use Rattle.theory_meaning.specs.declared.words.Sign.{Sign}
 use Rattle.theory_meaning.specs.declared.words.Sign.TheVariants.{Minus, Zero, Plus}
-use Rattle.theory_meaning.specs.Fraction.{Fraction, den}
-use Rattle.theory_method.specs.Signs.{sign_of_whole, opposite_sign}
+use Rattle.theory_meaning.specs.Fraction.{Fraction, den, opposite_sign}
+use Rattle.theory_formula.specs.Signs.{sign_of_whole}
 use Rattle.theory_elimination.proofs.SignSums.{times, CanSum, positive}
 use Rattle.theory_elimination.proofs.Lines.{Line, sign_on, slope_sign, base_sign, way, way_back, sign_along, flat}
 use Rattle.std.proofs.lemmas.Int.{ints}

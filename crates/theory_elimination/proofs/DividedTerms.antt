@@ -12,10 +12,10 @@ use Rattle.std.proofs.Math.IntN.{*ℤ_comm}
 use Rattle.std.proofs.lemmas.Nat.Gcd.{IsGcd-from_zero, IsGcd-from_sub, IsGcd-swap}
 use Rattle.std.proofs.lemmas.Slice.Eq.{bytes_eq-Decides}
 use Rattle.theory_meaning.proofs.WholeLaws.{neg-times}
-use Rattle.theory_method.specs.Polynomial.{Monomial, monomial, coefficient_at, AreSame, PrecedesFirst, IsPolynomial, IsContent, IsPrimitiveOf, IsCanonicalOf, HasPositiveFirst, DividesAll, scaled}
-use Rattle.theory_method.proofs.CoefficientLaws.{coefficient_at-scaled, same_itself, times_times}
-use Rattle.theory_method.proofs.FixedOrder.{coefficient_before, coefficient_first, none_of_zero}
-use Rattle.theory_method.proofs.PrimitiveLaws.{primitive_of_same, content_is_one, content_of_turned_back}
+use Rattle.theory_polynomial.specs.Polynomial.{Monomial, monomial, coefficient_at, AreSame, PrecedesFirst, IsPolynomial, IsContent, IsPrimitiveOf, IsCanonicalOf, HasPositiveFirst, DividesAll, scaled}
+use Rattle.theory_polynomial.proofs.CoefficientLaws.{coefficient_at-scaled, same_itself, times_times}
+use Rattle.theory_polynomial.proofs.FixedOrder.{coefficient_before, coefficient_first, none_of_zero}
+use Rattle.theory_polynomial.proofs.PrimitiveLaws.{primitive_of_same, content_is_one, content_of_turned_back}
 use Rattle.theory_elimination.proofs.SummedTerms.{HasPolynomial}
 
 -- two numbers have a greatest common divisor
@@ -41,7 +41,7 @@ has_gcd : (a b : ℕ) → HasGcd a b
 has_gcd a b = let whole : a + b ≤ a + b = omega arith in gcd_within (a + b) a b whole
 
 -- the number divides the coefficient of each term
-abbrev EachDivided : ℕ → List Monomial → Type 0
+abbrev pub EachDivided : ℕ → List Monomial → Type 0
 EachDivided d [] = Unit {0}
 EachDivided d (t ∷ ts) = (d ∣ unsigned_abs t.coefficient) × EachDivided d ts
 
@@ -72,7 +72,7 @@ rest_is t ts e apart =
     let none : (if bytes_eq t.powers e then t.coefficient else pos 0) ≡ pos 0 = ap (λ b. if b then t.coefficient else pos 0) apart in
     omega (arith, ints, none)
 
-all_from_each : (d : ℕ) (ts : List Monomial) → IsPolynomial ts → EachDivided d ts → DividesAll d ts
+pub all_from_each : (d : ℕ) (ts : List Monomial) → IsPolynomial ts → EachDivided d ts → DividesAll d ts
 all_from_each d [] h k e = dvd-zero d
 all_from_each d (t ∷ ts) h k e =
     elim (cases_Bool (bytes_eq t.powers e)) [
@@ -91,7 +91,7 @@ rest_divided d t ts h k e =
       | inr apart ↦ subst (λ c. d ∣ unsigned_abs c) (rest_is t ts e apart) (k e)
     ]
 
-each_from_all : (d : ℕ) (ts : List Monomial) → IsPolynomial ts → DividesAll d ts → EachDivided d ts
+pub each_from_all : (d : ℕ) (ts : List Monomial) → IsPolynomial ts → DividesAll d ts → EachDivided d ts
 each_from_all d [] h k = tt
 each_from_all d (t ∷ ts) h k =
     (subst (λ c. d ∣ unsigned_abs c) (coefficient_first t ts h) (k t.powers), each_from_all d ts h.2 (rest_divided d t ts h k))

@@ -2,12 +2,12 @@
 use Rattle.std.proofs.Common.{◌≡◌, true, refl, sym, ap, ◌∙◌, subst, ◌⊎◌, inl, inr, Option, None, Some, List}
 use Rattle.theory_meaning.specs.declared.words.Sign.{Sign}
 use Rattle.theory_meaning.specs.declared.words.Sign.TheVariants.{Minus, Zero, Plus}
-use Rattle.theory_meaning.specs.Fraction.{Fraction}
-use Rattle.theory_method.specs.declared.signs.Signs.{Signs}
-use Rattle.theory_method.specs.declared.signs.Signs.TheVariants as set
-use Rattle.theory_method.specs.Signs.{has, opposite_sign}
-use Rattle.theory_method.specs.Polynomial.{Monomial}
-use Rattle.theory_method.proofs.ConditionLaws.{mirror_has_opposite}
+use Rattle.theory_meaning.specs.Fraction.{Fraction, opposite_sign}
+use Rattle.theory_formula.specs.declared.signs.Signs.{Signs}
+use Rattle.theory_formula.specs.declared.signs.Signs.TheVariants as set
+use Rattle.theory_formula.specs.Signs.{has}
+use Rattle.theory_polynomial.specs.Polynomial.{Monomial}
+use Rattle.theory_formula.proofs.ConditionLaws.{mirror_has_opposite}
 use Rattle.theory_elimination.specs.TestPoint.{TestPoint, root, before, end_of}
 use Rattle.theory_elimination.specs.Substituted.{along_slope}
 use Rattle.theory_elimination.proofs.SignSums.{times, CanSum}

@@ -4,11 +4,11 @@ use Rattle.std.specs.Prelude.{◌&&◌, MatchOption, if◌then◌else◌}
 use Rattle.std.specs.Option.{unwrap_or}
 use Rattle.theory_meaning.specs.declared.words.Sign.{Sign}
 use Rattle.theory_meaning.specs.declared.words.Sign.TheVariants.{Minus, Zero, Plus}
-use Rattle.theory_method.specs.declared.signs.Signs.{Signs}
-use Rattle.theory_method.specs.Signs.{has, meet}
-use Rattle.theory_method.specs.Terms.{Monomial}
-use Rattle.theory_method.specs.PolynomialValue.{Values}
-use Rattle.theory_method.specs.Formula.{sign_at}
+use Rattle.theory_formula.specs.declared.signs.Signs.{Signs}
+use Rattle.theory_formula.specs.Signs.{has, meet}
+use Rattle.theory_polynomial.specs.Terms.{Monomial}
+use Rattle.theory_polynomial.specs.PolynomialValue.{Values}
+use Rattle.theory_formula.specs.Formula.{sign_at}
 use Rattle.theory_elimination.specs.SameFormula.{is_same_poly}
 use Rattle.theory_elimination.specs.Facts.{Facts, known_set, is_within, are_apart, judged_by, judged, with_fact, AreTrueAt}
 use Rattle.theory_elimination.proofs.SetTruth.{put_together_has}
@@ -27,7 +27,7 @@ apart_has T S s e h =
     ] (put_together_has true T S s) e
 
 -- the set of a fact on the polynomial has its sign
-known_has : (p : Values) (P : List Monomial) (K : Facts) (T : Signs) → AreTrueAt p K → known_set P K ≡ Some T → has T (sign_at P p) ≡ true
+pub known_has : (p : Values) (P : List Monomial) (K : Facts) (T : Signs) → AreTrueAt p K → known_set P K ≡ Some T → has T (sign_at P p) ≡ true
 known_has p P [] T h e = absurd cc
 known_has p P (f ∷ K) T h e =
     elim (is_same_poly f.poly P) as (λ b. is_same_poly f.poly P ≡ b → (if b then Some f.signs else known_set P K) ≡ Some T → has T (sign_at P p) ≡ true) [
@@ -38,14 +38,14 @@ known_has p P (f ∷ K) T h e =
     ] refl e
 
 -- a condition that facts decide is as they say
-judged_as : (S T : Signs) (s : Sign) (b : Bool) → has T s ≡ true → judged_by S (Some T) ≡ Some b → has S s ≡ b
+pub judged_as : (S T : Signs) (s : Sign) (b : Bool) → has T s ≡ true → judged_by S (Some T) ≡ Some b → has S s ≡ b
 judged_as S T s b h e =
     elim (are_apart (meet T S)) as (λ a. are_apart (meet T S) ≡ a →
     (if a then Some false else (if is_within T S then Some true else None)) ≡ Some b → has S s ≡ b) [
-      | true ↦ λ apart e'. let told : false ≡ b = cc in apart_has T S s apart h ∙ told
+      | true ↦ λ apart e'. let same : false ≡ b = cc in apart_has T S s apart h ∙ same
       | false ↦ λ touch e'.
           elim (is_within T S) as (λ w. is_within T S ≡ w → (if w then Some true else None) ≡ Some b → has S s ≡ b) [
-            | true ↦ λ within e''. let told : true ≡ b = cc in within_has T S s within h ∙ told
+            | true ↦ λ within e''. let same : true ≡ b = cc in within_has T S s within h ∙ same
             | false ↦ λ open_ e''. absurd cc
           ] refl e'
     ] refl e

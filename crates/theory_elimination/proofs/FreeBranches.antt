@@ -3,17 +3,20 @@ use Rattle.std.proofs.Common.{◌≡◌, ℕ, Bool, true, false, List, [], ◌�
 use Rattle.std.specs.Prelude.{slice_get, nat_lt, if◌then◌else◌}
 use Rattle.theory_meaning.specs.declared.words.Sign.{Sign}
 use Rattle.theory_meaning.specs.declared.words.Sign.TheVariants.{Minus, Zero, Plus}
-use Rattle.theory_method.specs.declared.signs.Signs.{Signs}
-use Rattle.theory_method.specs.declared.signs.Signs.TheVariants as set
-use Rattle.theory_method.specs.Signs.{mirror, without_zero}
-use Rattle.theory_method.specs.Polynomial.{Monomial, degree_in, IsFreeOf, cross_of}
-use Rattle.theory_method.specs.Formula.{Formula, Formulas, always, never, atom, conjunction, disjunction, none, more, EachAtomOfAll}
-use Rattle.theory_method.specs.FormulaAtoms.{atoms_of}
-use Rattle.theory_elimination.specs.TestPoint.{TestPoint, infinity, root, before, slope_in, base_in, holds_symbol, end_of, listed, is_constant, constant_sign, ends_by_slope, ends_of_atom, ends_of_atoms, test_points}
-use Rattle.theory_elimination.specs.Substituted.{along_slope, IsLineAt, IsAtomWhere, IsAtomAt, IsFormulaAt, AreFormulasAt}
+use Rattle.theory_formula.specs.declared.signs.Signs.{Signs}
+use Rattle.theory_formula.specs.declared.signs.Signs.TheVariants as set
+use Rattle.theory_formula.specs.Signs.{mirror, without_zero}
+use Rattle.theory_polynomial.specs.Polynomial.{Monomial, degree_in, IsFreeOf, cross_of}
+use Rattle.theory_polynomial.proofs.FreeLaws.{LacksSymbol}
+use Rattle.theory_formula.specs.Formula.{Formula, Formulas, always, never, atom, conjunction, disjunction, none, more, EachAtomOfAll}
+use Rattle.theory_formula.specs.FormulaAtoms.{atoms_of}
+use Rattle.theory_elimination.specs.TestPoint.{TestPoint, infinity, root, before, holds_symbol, end_of, listed, is_constant, constant_sign, ends_by_slope, ends_of_atom, ends_of_atoms, test_points}
+use Rattle.theory_polynomial.specs.PolynomialValue.{slope_in, base_in}
+use Rattle.theory_elimination.specs.Substituted.{IsConditionOn, along_slope, IsLineAt, IsAtomWhere, IsAtomAt, IsFormulaAt, AreFormulasAt}
 use Rattle.theory_elimination.specs.Branches.{only, Plan, plain, guarded, level, plan_at, Taken, top_equation, others_of, root_plans, plans_by, branch_plans, IsWrittenBy, IsBranch}
-use Rattle.theory_elimination.specs.Elimination.{IsFree, IsLevelBranch}
-use Rattle.theory_elimination.proofs.FreeTerms.{TermsLack, lack_part, lack_cross, terms_lack, primitive_lacks, atom_free, condition_free}
+use Rattle.theory_formula.specs.Symbols.{IsFree}
+use Rattle.theory_elimination.specs.Elimination.{IsLevelBranch}
+use Rattle.theory_formula.proofs.FreeTerms.{TermsLack, lack_part, lack_cross, terms_lack, primitive_lacks, atom_free}
 use Rattle.theory_elimination.proofs.AtomLists.{Row}
 use Rattle.theory_elimination.proofs.PointLists.{EachPoint, each_append, each_of_first}
 use Rattle.theory_elimination.proofs.PlanLists.{EachPlan, each_at, each_planned}
@@ -28,11 +31,15 @@ module _ (x : ℕ) where
   PointLacks (root a b s) = TermsLack x a × TermsLack x b
   PointLacks (before a b s) = TermsLack x a × TermsLack x b
 
+  condition_free : (P : List Monomial) (m : Option Signs) (F : Formula) → LacksSymbol x P → IsConditionOn P m F → IsFree x F
+  condition_free P None F h w = subst (IsFree x) (sym w) tt
+  condition_free P (Some S) F h w = atom_free x P S F h w
+
   line_free : (point : TestPoint) (slope base : List Monomial) (S : Signs) (G : Formula) → PointLacks point → TermsLack x slope → TermsLack x base
       → IsLineAt point slope base S G → IsFree x G
   line_free infinity slope base S G h k l w =
       subst (IsFree x) (sym w.written) (
-        condition_free x slope (without_zero S) w.by_slope (terms_lack x slope k) w.slope_is,
+        condition_free slope (without_zero S) w.by_slope (terms_lack x slope k) w.slope_is,
         ((atom_free x slope set.Zero w.flat (terms_lack x slope k) w.flat_is, (atom_free x base S w.by_base (terms_lack x base l) w.base_is, tt)), tt),
       )
   line_free (root a b s) slope base S G h k l w =
@@ -40,7 +47,7 @@ module _ (x : ℕ) where
   line_free (before a b s) slope base S G h k l w =
       let q = primitive_lacks x (cross_of a base slope b) w.q (lack_cross x a base slope b h.0 l k h.1) w.cross in
       subst (IsFree x) (sym w.written) (
-        condition_free x w.q (without_zero (along_slope s S)) w.there q w.there_is,
+        condition_free w.q (without_zero (along_slope s S)) w.there q w.there_is,
         ((atom_free x w.q set.Zero w.zero q w.zero_is, (atom_free x slope (mirror S) w.falling (terms_lack x slope k) w.falling_is, tt)), tt),
       )
 

@@ -4,13 +4,13 @@ use Rattle.std.specs.Prelude.{IsTrue, if◌then◌else◌}
 use Rattle.theory_meaning.specs.declared.words.Sign.{Sign}
 use Rattle.theory_meaning.specs.declared.words.Sign.TheVariants.{Minus, Zero, Plus}
 use Rattle.theory_meaning.specs.Fraction.{Fraction}
-use Rattle.theory_method.specs.declared.signs.Signs.{Signs}
-use Rattle.theory_method.specs.Polynomial.{Monomial, IsPolynomial}
-use Rattle.theory_method.specs.PolynomialValue.{Values}
-use Rattle.theory_method.specs.Formula.{Formula, sign_at, truth_by, StaysTrue}
-use Rattle.theory_method.specs.FormulaAtoms.{atoms_of}
-use Rattle.theory_method.proofs.FormulaLaws.{kept}
-use Rattle.theory_elimination.specs.TestPoint.{TestPoint, root, before, slope_in, base_in, holds_symbol, end_of, listed, is_constant, ends_by_slope, ends_of_atom, ends_of_atoms}
+use Rattle.theory_formula.specs.declared.signs.Signs.{Signs}
+use Rattle.theory_polynomial.specs.Polynomial.{Monomial, IsPolynomial}
+use Rattle.theory_polynomial.specs.PolynomialValue.{Values, slope_in, base_in}
+use Rattle.theory_formula.specs.Formula.{Formula, sign_at, truth_by, StaysTrue}
+use Rattle.theory_formula.specs.FormulaAtoms.{atoms_of}
+use Rattle.theory_formula.proofs.FormulaLaws.{kept}
+use Rattle.theory_elimination.specs.TestPoint.{TestPoint, root, before, holds_symbol, end_of, listed, is_constant, ends_by_slope, ends_of_atom, ends_of_atoms}
 use Rattle.theory_elimination.specs.Substituted.{along_slope}
 use Rattle.theory_elimination.specs.Elimination.{IsLinearAtom, IsLinear}
 use Rattle.theory_elimination.proofs.Lines.{slope_sign, root_of}

@@ -16,10 +16,15 @@ pub mod AtomLists
 pub mod PointLists
 pub mod LeastEnd
 pub mod TopEquations
+pub mod GuardedPoints
+pub mod EquationBranches
 pub mod BranchLaws
 pub mod PlanLists
-pub mod FreeTerms
 pub mod FreeBranches
 pub mod SummedTerms
 pub mod DividedTerms
 pub mod WrittenBranches
+pub mod SimplifiedAtoms
+pub mod BranchAtoms
+pub mod SingleBranches
+pub mod LevelBranch

@@ -7,15 +7,14 @@ use Rattle.std.proofs.lemmas.Int.{ints}
 use Rattle.theory_meaning.specs.Fraction.{Fraction, den, whole, IsSame, sum_of as fraction_sum, product_of as fraction_product}
 use Rattle.theory_meaning.proofs.WholeLaws.{times-swap}
 use Rattle.theory_meaning.proofs.OrderLaws.{same_itself}
-use Rattle.theory_method.specs.Signs.{sign_of, sign_of_whole}
-use Rattle.theory_method.specs.Formula.{sign_at}
-use Rattle.theory_method.specs.Polynomial.{Monomial, degree_in, IsLinearIn, scaled, sum_of}
-use Rattle.theory_method.specs.PolynomialValue.{Values, rest_of, symbol_at, polynomial_at, GivesValue, part_of, restriction_step}
-use Rattle.theory_method.proofs.FractionLaws.{Equals, along, sums, sign_of_same}
-use Rattle.theory_method.proofs.PolynomialValues.{value_of_sum, value_of_scaled}
-use Rattle.theory_method.proofs.RestrictionLaws.{last_has_sign}
-use Rattle.theory_method.proofs.ConditionLaws.{sign_of_own, sign_of_only}
-use Rattle.theory_elimination.specs.TestPoint.{slope_in, base_in}
+use Rattle.theory_formula.specs.Signs.{sign_of, sign_of_whole}
+use Rattle.theory_formula.specs.Formula.{sign_at}
+use Rattle.theory_polynomial.specs.Polynomial.{Monomial, degree_in, IsLinearIn, scaled, sum_of}
+use Rattle.theory_polynomial.specs.PolynomialValue.{Values, rest_of, symbol_at, polynomial_at, GivesValue, part_of, restriction_step, slope_in, base_in}
+use Rattle.theory_meaning.proofs.FractionLaws.{Equals, along, sums, sign_of_same}
+use Rattle.theory_polynomial.proofs.PolynomialValues.{value_of_sum, value_of_scaled}
+use Rattle.theory_polynomial.proofs.RestrictionLaws.{last_has_sign}
+use Rattle.theory_formula.proofs.ConditionLaws.{sign_of_own, sign_of_only}
 use Rattle.theory_elimination.specs.Elimination.{with_value}
 use Rattle.theory_elimination.proofs.SignSums.{sign_of_scaled}
 use Rattle.theory_elimination.proofs.Lines.{Line, sign_on, slope_sign, base_sign}

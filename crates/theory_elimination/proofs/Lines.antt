@@ -5,8 +5,8 @@ use Rattle.std.proofs.lemmas.Int.{ints}
 use Rattle.theory_meaning.proofs.WholeLaws.{neg-times, sum-times, times-swap}
 use Rattle.theory_meaning.specs.declared.words.Sign.{Sign}
 use Rattle.theory_meaning.specs.declared.words.Sign.TheVariants.{Zero}
-use Rattle.theory_meaning.specs.Fraction.{Fraction, den, cross}
-use Rattle.theory_method.specs.Signs.{sign_of_whole, opposite_sign}
+use Rattle.theory_meaning.specs.Fraction.{Fraction, den, cross, opposite_sign}
+use Rattle.theory_formula.specs.Signs.{sign_of_whole}
 use Rattle.theory_elimination.proofs.SignSums.{none, is_none, times, CanSum, sign_of_sum, sign_of_product, sign_of_scaled, sign_of_opposite}
 
 pub record Line : Type 0 where

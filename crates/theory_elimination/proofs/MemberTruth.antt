@@ -2,12 +2,12 @@
 use Rattle.std.proofs.Common.{◌≡◌, Bool, true, false, not, List, [], ◌∷◌, Option, None, Some, refl, sym, ap, ap₂, ◌∙◌}
 use Rattle.std.specs.Prelude.{◌&&◌, ◌||◌, if◌then◌else◌, map}
 use Rattle.std.specs.List.{list_any}
-use Rattle.theory_method.specs.Signs.{has}
-use Rattle.theory_method.specs.PolynomialValue.{Values}
-use Rattle.theory_method.specs.Formula.{Formula, Formulas, always, never, atom, conjunction, disjunction, none, more, formulas_list, formulas_from, sign_at, truth_at, all_by, some_by, reading_at}
-use Rattle.theory_method.specs.SignCondition.{decided}
+use Rattle.theory_formula.specs.Signs.{has}
+use Rattle.theory_polynomial.specs.PolynomialValue.{Values}
+use Rattle.theory_formula.specs.Formula.{Formula, Formulas, always, never, atom, conjunction, disjunction, none, more, formulas_list, formulas_from, sign_at, truth_at, all_by, some_by, reading_at}
+use Rattle.theory_formula.specs.SignCondition.{decided}
 use Rattle.theory_elimination.specs.SameFormula.{is_same}
-use Rattle.theory_elimination.specs.Simplified.{Part, told, condition, other, as_part, spliced, as_formula, first_ones, list_of, bundled, finished}
+use Rattle.theory_elimination.specs.Simplified.{Part, settled, condition, other, as_part, spliced, as_formula, first_ones, list_of, bundled, finished}
 use Rattle.theory_elimination.proofs.SetTruth.{combined}
 use Rattle.theory_elimination.proofs.SameLaws.{same_truth}
 use Rattle.theory_elimination.proofs.PartTruth as part
@@ -19,7 +19,7 @@ module _ (p : Values) where
   HasTruth F v = v ≡ truth_at F p
 
   abbrev pub truth_of_part : Part Formula → Bool
-  truth_of_part (told b) = b
+  truth_of_part (settled b) = b
   truth_of_part (condition P S) = has S (sign_at P p)
   truth_of_part (other F) = truth_at F p
 
@@ -27,7 +27,7 @@ module _ (p : Values) where
   truths ms = map truth_of_part ms
 
   part_is_worth : (m : Part Formula) → part.IsWorth HasTruth p m (truth_of_part m)
-  part_is_worth (told b) = refl
+  part_is_worth (settled b) = refl
   part_is_worth (condition P S) = refl
   part_is_worth (other F) = refl
 
@@ -36,7 +36,7 @@ module _ (p : Values) where
   parts_are_worth (m ∷ ms) = (part_is_worth m, parts_are_worth ms)
 
   worth_is : (m : Part Formula) (u : Bool) → part.IsWorth HasTruth p m u → u ≡ truth_of_part m
-  worth_is (told b) u w = w
+  worth_is (settled b) u w = w
   worth_is (condition P S) u w = w
   worth_is (other F) u w = w
 
@@ -86,7 +86,7 @@ module _ (p : Values) where
   decided_truth false = refl
 
   formula_truth : (m : Part Formula) → truth_at (as_formula m) p ≡ truth_of_part m
-  formula_truth (told b) = decided_truth b
+  formula_truth (settled b) = decided_truth b
   formula_truth (condition P S) = refl
   formula_truth (other F) = refl
 

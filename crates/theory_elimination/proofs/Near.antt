@@ -4,9 +4,8 @@ use Rattle.std.specs.Prelude.{unsigned_abs}
 use Rattle.std.proofs.lemmas.Int.{ints}
 use Rattle.theory_meaning.specs.declared.words.Sign.{Sign}
 use Rattle.theory_meaning.specs.declared.words.Sign.TheVariants.{Minus, Zero, Plus}
-use Rattle.theory_meaning.specs.Fraction.{Fraction, whole, cross, IsBelow}
+use Rattle.theory_meaning.specs.Fraction.{Fraction, whole, cross, IsBelow, opposite_sign}
 use Rattle.theory_meaning.proofs.OrderLaws.{mediant, below_mediant, mediant_below, whole_below, whole_above}
-use Rattle.theory_method.specs.Signs.{opposite_sign}
 use Rattle.theory_elimination.proofs.SignSums.{times, CanSum, positive, is_positive, times_plus}
 use Rattle.theory_elimination.proofs.Lines.{Line, sign_on, slope_sign, base_sign, way, way_back, sign_along, root_of, zero_at_root, flat}
 use Rattle.theory_elimination.proofs.Cuts.{Cut, top, on, just_before, leading, sign_at_cut, flat_at_cut, ways_add, up_or_back, up_plus, plus_is_up}

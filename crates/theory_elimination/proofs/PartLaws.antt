@@ -1,5 +1,5 @@
 -- Slope and base of a polynomial that is linear in a symbol: both are polynomials without the symbol, and give its sign.
-use Rattle.std.proofs.Common.{◌≡◌, ℕ, zero, suc, ◌≤◌, max, length, Bool, true, false, List, [], ◌∷◌, get_or, set, refl, sym, ap, ap₂, ◌∙◌, subst, arith, inl, inr}
+use Rattle.std.proofs.Common.{◌≡◌, ℕ, zero, suc, ◌≤◌, max, length, Bool, true, false, List, [], ◌∷◌, get_or, set, refl, sym, ap, ap₂, ◌∙◌, subst, arith, inl, inr, replicate}
 use Rattle.std.specs.Prelude.{◌==◌, nat_lt, filter, map, cond}
 use Rattle.std.specs.Ordering.{nat_cmp, ordering_then}
 use Rattle.std.specs.Cmp.{nat_cmp_is}
@@ -10,18 +10,16 @@ use Rattle.std.proofs.lemmas.Bool.{cases_Bool}
 use Rattle.theory_meaning.specs.declared.words.Sign.{Sign}
 use Rattle.theory_meaning.specs.declared.words.Sign.TheVariants.{Minus, Zero, Plus}
 use Rattle.theory_meaning.specs.Fraction.{Fraction, whole, sum_of as fraction_sum, product_of as fraction_product, power_of}
-use Rattle.theory_method.specs.Formula.{sign_at}
-use Rattle.theory_method.specs.Polynomial.{Monomial, monomial, coefficient_at, Precedes, PrecedesFirst, IsPolynomial, exponent_of, degree_in, IsLinearIn, no_powers, greatest_of, greatest_exponent_of}
-use Rattle.theory_method.specs.PolynomialValue.{Values, first_of, rest_of, power_product, polynomial_at, part_of}
-use Rattle.theory_method.proofs.FixedOrder.{precedes_rest}
-use Rattle.theory_method.proofs.ConditionLaws.{condition_truth, constant_from_first, zero_powers}
-use Rattle.theory_method.specs.SignCondition.{IsConstant, decided}
-use Rattle.theory_method.specs.Signs.{has}
-use Rattle.theory_method.specs.Formula.{truth_at}
+use Rattle.theory_formula.specs.Formula.{sign_at, truth_at}
+use Rattle.theory_polynomial.specs.Polynomial.{Monomial, monomial, coefficient_at, Precedes, PrecedesFirst, IsPolynomial, exponent_of, degree_in, IsLinearIn, no_powers, greatest_of, greatest_exponent_of}
+use Rattle.theory_polynomial.specs.PolynomialValue.{Values, first_of, rest_of, power_product, polynomial_at, part_of, slope_in}
+use Rattle.theory_polynomial.proofs.FixedOrder.{precedes_rest}
+use Rattle.theory_formula.proofs.ConditionLaws.{condition_truth, constant_from_first, zero_powers}
+use Rattle.theory_formula.specs.SignCondition.{IsConstant, decided}
+use Rattle.theory_formula.specs.Signs.{has}
 use Rattle.theory_elimination.specs.Branches.{only}
 use Rattle.theory_elimination.proofs.SignSums.{is_none}
-use Rattle.std.proofs.Common.{replicate}
-use Rattle.theory_elimination.specs.TestPoint.{slope_in, holds_symbol, is_constant, constant_sign}
+use Rattle.theory_elimination.specs.TestPoint.{holds_symbol, is_constant, constant_sign}
 use Rattle.theory_elimination.specs.Elimination.{with_value}
 
 eq_of : (m n : ℕ) → m == n ≡ true → m ≡ n

@@ -3,14 +3,14 @@ use Rattle.std.proofs.Common.{◌≡◌, Bool, true, false, not, List, [], ◌�
 use Rattle.std.specs.Prelude.{◌&&◌, MatchOption, if◌then◌else◌, map}
 use Rattle.std.specs.Bool.{beq}
 use Rattle.std.specs.Option.{option_map, option_and_then}
-use Rattle.theory_method.specs.declared.signs.Signs.{Signs}
-use Rattle.theory_method.specs.Signs.{has}
-use Rattle.theory_method.specs.Terms.{Monomial}
-use Rattle.theory_method.specs.PolynomialValue.{Values}
-use Rattle.theory_method.specs.Formula.{sign_at}
+use Rattle.theory_formula.specs.declared.signs.Signs.{Signs}
+use Rattle.theory_formula.specs.Signs.{has}
+use Rattle.theory_polynomial.specs.Terms.{Monomial}
+use Rattle.theory_polynomial.specs.PolynomialValue.{Values}
+use Rattle.theory_formula.specs.Formula.{sign_at}
 use Rattle.theory_elimination.specs.SameFormula.{is_same_poly}
 use Rattle.theory_elimination.specs.Facts.{Facts, judged, with_fact, AreTrueAt}
-use Rattle.theory_elimination.specs.Simplified.{Part, told, condition, other, put_together, with_condition, gathered_behind, undecided, gathered, as_judged, by_facts, with_conditions}
+use Rattle.theory_elimination.specs.Simplified.{Part, settled, condition, other, put_together, with_condition, gathered_behind, undecided, gathered, as_judged, by_facts, with_conditions}
 use Rattle.theory_elimination.proofs.SetTruth.{combined, put_together_has}
 use Rattle.theory_elimination.proofs.SameLaws.{same_poly}
 use Rattle.theory_elimination.proofs.FactTruth.{judged_has, one_more_fact}
@@ -65,7 +65,7 @@ second_part false b e = absurd cc
 module _ {X : Type 0} (IsOther : X → Bool → Type 0) (p : Values) where
   -- the member has this truth
   abbrev pub IsWorth : Part X → Bool → Type 0
-  IsWorth (told b) v = v ≡ b
+  IsWorth (settled b) v = v ≡ b
   IsWorth (condition P S) v = v ≡ has S (sign_at P p)
   IsWorth (other x) v = IsOther x v
 
@@ -138,11 +138,11 @@ module _ {X : Type 0} (IsOther : X → Bool → Type 0) (p : Values) where
             (keeps_met all Q T S ms us w.1)
         | false ↦ λ differ. further
       ] refl
-  keeps_condition all P S (told b ∷ ms) (u ∷ us) w =
-      keeps_same all (option_map (λ ns. told b ∷ ns) (with_condition all P S ms)) (combined all u (combined all (total all us) (has S (sign_at P p))))
+  keeps_condition all P S (settled b ∷ ms) (u ∷ us) w =
+      keeps_same all (option_map (λ ns. settled b ∷ ns) (with_condition all P S ms)) (combined all u (combined all (total all us) (has S (sign_at P p))))
       (combined all (combined all u (total all us)) (has S (sign_at P p)))
       (sym (combined_assoc all u (total all us) (has S (sign_at P p))))
-      (keeps_front all (told b) u (with_condition all P S ms) (combined all (total all us) (has S (sign_at P p))) w.0 (keeps_condition all P S ms us w.1))
+      (keeps_front all (settled b) u (with_condition all P S ms) (combined all (total all us) (has S (sign_at P p))) w.0 (keeps_condition all P S ms us w.1))
   keeps_condition all P S (other x ∷ ms) (u ∷ us) w =
       keeps_same all (option_map (λ ns. other x ∷ ns) (with_condition all P S ms)) (combined all u (combined all (total all us) (has S (sign_at P p))))
       (combined all (combined all u (total all us)) (has S (sign_at P p)))
@@ -181,37 +181,37 @@ module _ {X : Type 0} (IsOther : X → Bool → Type 0) (p : Values) where
             (combined all (total all us) (combined all v (total all vs)))
             (ap (λ (b : Bool). combined all b (total all vs)) k.2 ∙ value) (keeps_gathered all ns ms k.0 vs k.1 h.1)
       ] found
-  keeps_gathered all done (told b ∷ ms) us (v ∷ vs) w h =
-      keeps_same all (gathered_behind all (done ++ told b ∷ []) ms) (combined all (total all (us ++ v ∷ [])) (total all vs))
+  keeps_gathered all done (settled b ∷ ms) us (v ∷ vs) w h =
+      keeps_same all (gathered_behind all (done ++ settled b ∷ []) ms) (combined all (total all (us ++ v ∷ [])) (total all vs))
       (combined all (total all us) (combined all v (total all vs))) (end_total all us v vs)
-      (keeps_gathered all (done ++ told b ∷ []) ms (us ++ v ∷ []) vs (worth_end done us (told b) v w h.0) h.1)
+      (keeps_gathered all (done ++ settled b ∷ []) ms (us ++ v ∷ []) vs (worth_end done us (settled b) v w h.0) h.1)
   keeps_gathered all done (other x ∷ ms) us (v ∷ vs) w h =
       keeps_same all (gathered_behind all (done ++ other x ∷ []) ms) (combined all (total all (us ++ v ∷ [])) (total all vs))
       (combined all (total all us) (combined all v (total all vs))) (end_total all us v vs)
       (keeps_gathered all (done ++ other x ∷ []) ms (us ++ v ∷ []) vs (worth_end done us (other x) v w h.0) h.1)
 
   -- a decided member doesn't count, or decides the whole
-  told_total : (all b v : Bool) → beq b all ≡ true → combined all b v ≡ v
-  told_total true true v e = refl
-  told_total false false v e = refl
-  told_total true false v e = absurd cc
-  told_total false true v e = absurd cc
+  settled_total : (all b v : Bool) → beq b all ≡ true → combined all b v ≡ v
+  settled_total true true v e = refl
+  settled_total false false v e = refl
+  settled_total true false v e = absurd cc
+  settled_total false true v e = absurd cc
 
-  told_decides : (all b v : Bool) → beq b all ≡ false → combined all b v ≡ not all
-  told_decides true false v e = refl
-  told_decides false true v e = refl
-  told_decides true true v e = absurd cc
-  told_decides false false v e = absurd cc
+  settled_decides : (all b v : Bool) → beq b all ≡ false → combined all b v ≡ not all
+  settled_decides true false v e = refl
+  settled_decides false true v e = refl
+  settled_decides true true v e = absurd cc
+  settled_decides false false v e = absurd cc
 
   pub keeps_undecided : (all : Bool) (ms : List (Part X)) (us : List Bool) → AreWorth ms us → Keeps all (undecided all ms) (total all us)
   keeps_undecided all [] [] w = ([], tt, refl)
   keeps_undecided all [] (u ∷ us) w = absurd w
   keeps_undecided all (m ∷ ms) [] w = absurd w
-  keeps_undecided all (told b ∷ ms) (u ∷ us) w =
+  keeps_undecided all (settled b ∷ ms) (u ∷ us) w =
       elim (beq b all) as (λ t. beq b all ≡ t → Keeps all (if t then undecided all ms else None) (combined all u (total all us))) [
         | true ↦ λ e. keeps_same all (undecided all ms) (total all us) (combined all u (total all us))
-            (sym (told_total all b (total all us) e) ∙ ap (λ (c : Bool). combined all c (total all us)) (sym w.0)) (keeps_undecided all ms us w.1)
-        | false ↦ λ e. ap (λ (c : Bool). combined all c (total all us)) w.0 ∙ told_decides all b (total all us) e
+            (sym (settled_total all b (total all us) e) ∙ ap (λ (c : Bool). combined all c (total all us)) (sym w.0)) (keeps_undecided all ms us w.1)
+        | false ↦ λ e. ap (λ (c : Bool). combined all c (total all us)) w.0 ∙ settled_decides all b (total all us) e
       ] refl
   keeps_undecided all (condition P S ∷ ms) (u ∷ us) w = keeps_front all (condition P S) u (undecided all ms) (total all us) w.0 (keeps_undecided all ms us w.1)
   keeps_undecided all (other x ∷ ms) (u ∷ us) w = keeps_front all (other x) u (undecided all ms) (total all us) w.0 (keeps_undecided all ms us w.1)
@@ -225,7 +225,7 @@ module _ {X : Type 0} (IsOther : X → Bool → Type 0) (p : Values) where
 
   -- what true facts say of members
   worth_by_facts : (K : Facts) (m : Part X) (u : Bool) → AreTrueAt p K → IsWorth m u → IsWorth (by_facts K m) u
-  worth_by_facts K (told b) u h w = w
+  worth_by_facts K (settled b) u h w = w
   worth_by_facts K (other x) u h w = w
   worth_by_facts K (condition P S) u h w =
       elim (judged K P S) as (λ o. judged K P S ≡ o → IsWorth (as_judged P S o) u) [
@@ -243,7 +243,7 @@ module _ {X : Type 0} (IsOther : X → Bool → Type 0) (p : Values) where
   abbrev pub conditions_hold : List (Part X) → Bool
   conditions_hold [] = true
   conditions_hold (condition P S ∷ ms) = has S (sign_at P p) && conditions_hold ms
-  conditions_hold (told b ∷ ms) = conditions_hold ms
+  conditions_hold (settled b ∷ ms) = conditions_hold ms
   conditions_hold (other x ∷ ms) = conditions_hold ms
 
   pub facts_with_conditions : (ms : List (Part X)) (K : Facts) → AreTrueAt p K → conditions_hold ms ≡ true → AreTrueAt p (with_conditions ms K)
@@ -251,7 +251,7 @@ module _ {X : Type 0} (IsOther : X → Bool → Type 0) (p : Values) where
   facts_with_conditions (condition P S ∷ ms) K h e =
       facts_with_conditions ms (with_fact P S K) (one_more_fact p P S K h (first_part (has S (sign_at P p)) (conditions_hold ms) e))
       (second_part (has S (sign_at P p)) (conditions_hold ms) e)
-  facts_with_conditions (told b ∷ ms) K h e = facts_with_conditions ms K h e
+  facts_with_conditions (settled b ∷ ms) K h e = facts_with_conditions ms K h e
   facts_with_conditions (other x ∷ ms) K h e = facts_with_conditions ms K h e
 
   -- where one isn't, the conjunction is false
@@ -263,5 +263,5 @@ module _ {X : Type 0} (IsOther : X → Bool → Type 0) (p : Values) where
         | true ↦ λ k. conditions_fail ms us w.1 (sym (ap (λ (b : Bool). b && conditions_hold ms) (sym k)) ∙ e)
         | false ↦ λ k. refl
       ] w.0
-  conditions_fail (told b ∷ ms) (u ∷ us) w e = ap (λ (c : Bool). u && c) (conditions_fail ms us w.1 e) ∙ combined_comm true u false
+  conditions_fail (settled b ∷ ms) (u ∷ us) w e = ap (λ (c : Bool). u && c) (conditions_fail ms us w.1 e) ∙ combined_comm true u false
   conditions_fail (other x ∷ ms) (u ∷ us) w e = ap (λ (c : Bool). u && c) (conditions_fail ms us w.1 e) ∙ combined_comm true u false

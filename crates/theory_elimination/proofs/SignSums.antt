@@ -4,7 +4,8 @@ use Rattle.std.specs.Prelude.{◌<ℤ◌}
 use Rattle.std.proofs.lemmas.Int.{ints}
 use Rattle.theory_meaning.specs.declared.words.Sign.{Sign}
 use Rattle.theory_meaning.specs.declared.words.Sign.TheVariants.{Minus, Zero, Plus}
-use Rattle.theory_method.specs.Signs.{sign_of_whole, opposite_sign}
+use Rattle.theory_meaning.specs.Fraction.{opposite_sign}
+use Rattle.theory_formula.specs.Signs.{sign_of_whole}
 
 -- the sign is that of the number, read off an inequality and back
 pub positive : (a : ℤ) → pos 0 <ℤ a → sign_of_whole a ≡ Plus

@@ -3,12 +3,14 @@ use Rattle.std.proofs.Common.{◌≡◌, Bool, true, false, List, [], ◌∷◌,
 use Rattle.std.specs.Prelude.{◌&&◌, map}
 use Rattle.std.specs.Option.{option_and_then}
 use Rattle.std.proofs.lemmas.List.{map-append}
-use Rattle.theory_method.specs.Signs.{has}
-use Rattle.theory_method.specs.PolynomialValue.{Values}
-use Rattle.theory_method.specs.Formula.{Formula, Formulas, always, never, atom, conjunction, disjunction, none, more, sign_at, truth_at, all_by, some_by, reading_at}
-use Rattle.theory_method.specs.SignCondition.{decided}
-use Rattle.theory_elimination.specs.Facts.{Facts, judged, AreTrueAt}
-use Rattle.theory_elimination.specs.Simplified.{Part, Waiting, told, condition, other, undecided, gathered, by_facts, with_conditions, facts_within, spliced, members_under, left_open, simplified_list, parts_of, all_parts_of, as_known, simplified_under}
+use Rattle.theory_formula.specs.declared.signs.Signs.{Signs}
+use Rattle.theory_polynomial.specs.Terms.{Monomial}
+use Rattle.theory_formula.specs.Signs.{has}
+use Rattle.theory_polynomial.specs.PolynomialValue.{Values}
+use Rattle.theory_formula.specs.Formula.{Formula, Formulas, always, never, atom, conjunction, disjunction, none, more, sign_at, truth_at, all_by, some_by, reading_at}
+use Rattle.theory_formula.specs.SignCondition.{decided}
+use Rattle.theory_elimination.specs.Facts.{Facts, AreTrueAt}
+use Rattle.theory_elimination.specs.Simplified.{Part, Waiting, settled, condition, other, undecided, gathered, by_facts, with_conditions, facts_within, spliced, members_under, left_open, Judging, by_known, simplified_list_by, parts_by, all_parts_by, as_known, simplified_by, simplified_under}
 use Rattle.theory_elimination.proofs.SetTruth.{combined}
 use Rattle.theory_elimination.proofs.FactTruth.{judged_has}
 use Rattle.theory_elimination.proofs.PartTruth as part
@@ -33,7 +35,7 @@ module _ (p : Values) where
   under_truth all K [] [] h w = refl
   under_truth all K [] (u ∷ us) h w = absurd w
   under_truth all K (m ∷ ms) [] h w = absurd w
-  under_truth all K (told b ∷ ms) (u ∷ us) h w = ap₂ (combined all) (sym w.0) (under_truth all K ms us h w.1)
+  under_truth all K (settled b ∷ ms) (u ∷ us) h w = ap₂ (combined all) (sym w.0) (under_truth all K ms us h w.1)
   under_truth all K (condition P S ∷ ms) (u ∷ us) h w = ap₂ (combined all) (sym w.0) (under_truth all K ms us h w.1)
   under_truth all K (other simplify ∷ ms) (u ∷ us) h w =
       truths_append all (spliced all (simplify K)) (members_under all K ms)
@@ -42,7 +44,7 @@ module _ (p : Values) where
   -- where a condition among them is false, the conjunction is
   under_fails : (K : Facts) (ms : List Waiting) → part.conditions_hold WaitsFor p ms ≡ false → total true (truths p (members_under true K ms)) ≡ false
   under_fails K [] e = absurd cc
-  under_fails K (told b ∷ ms) e = ap (λ (c : Bool). b && c) (under_fails K ms e) ∙ combined_comm true b false
+  under_fails K (settled b ∷ ms) e = ap (λ (c : Bool). b && c) (under_fails K ms e) ∙ combined_comm true b false
   under_fails K (condition P S ∷ ms) e =
       elim (has S (sign_at P p)) as (λ b. b && part.conditions_hold WaitsFor p ms ≡ false → b && total true (truths p (members_under true K ms)) ≡ false) [
         | true ↦ λ e'. under_fails K ms e'
@@ -77,12 +79,21 @@ module _ (p : Values) where
   then_finished all None f v k next = k
   then_finished all (Some ms) f v k next = part.keeps_same (HasTruth p) p all (f ms) (total all k.0) v k.2 (next ms k.0 k.1)
 
-  list_truth : (all : Bool) (K : Facts) (ms : List Waiting) (us : List Bool) → AreTrueAt p K → AreWaiting ms us
-      → truth_at (simplified_list all K ms) p ≡ total all us
-  list_truth all K ms us h w =
-      finished_truth p all (option_and_then (λ ns. gathered all (members_under all (facts_within all ns K) ns)) (left_open all K ms)) (total all us)
-      (then_finished all (left_open all K ms) (λ ns. gathered all (members_under all (facts_within all ns K) ns)) (total all us)
-      (left_open_keeps all K ms us h w)
+  -- a way to judge that keeps the truth under true facts
+  pub record IsSound (J : Judging) : Type 0 where
+    pub alone : (K : Facts) (P : List Monomial) (S : Signs) (b : Bool) → AreTrueAt p K → J.alone K P S ≡ Some b → has S (sign_at P p) ≡ b
+    pub open_members : (all : Bool) (K : Facts) (ms : List Waiting) (us : List Bool) → AreTrueAt p K → AreWaiting ms us
+        → part.Keeps WaitsFor p all (J.open_members all K ms) (total all us)
+
+  pub by_known_is_sound : IsSound by_known
+  by_known_is_sound = record { alone = λ K P S b h e. judged_has p P S K b h e; open_members = left_open_keeps }
+
+  list_truth : (J : Judging) → IsSound J → (all : Bool) (K : Facts) (ms : List Waiting) (us : List Bool) → AreTrueAt p K → AreWaiting ms us
+      → truth_at (simplified_list_by J all K ms) p ≡ total all us
+  list_truth J sound all K ms us h w =
+      finished_truth p all (option_and_then (λ ns. gathered all (members_under all (facts_within all ns K) ns)) (J.open_members all K ms)) (total all us)
+      (then_finished all (J.open_members all K ms) (λ ns. gathered all (members_under all (facts_within all ns K) ns)) (total all us)
+      (sound.open_members all K ms us h w)
       (λ ns vs k.
       let made = members_under all (facts_within all ns K) ns in
       part.keeps_same (HasTruth p) p all (gathered all made) (total all (truths p made)) (total all vs) (within_truth all K ns vs h k)
@@ -111,41 +122,48 @@ module _ (p : Values) where
   }
 
   mutual
-    stands : (all : Bool) (F : Formula) → Stands all (parts_of all F) (truth_at F p)
-    stands all always = one all (told true) true true refl refl
-    stands all never = one all (told false) false false refl refl
-    stands all (atom P S) = one all (condition P S) (has S (sign_at P p)) (has S (sign_at P p)) refl refl
-    stands true (conjunction Fs) = all_stand Fs
-    stands true (disjunction Fs) =
-        let h = some_stand Fs in
-        one true (other (λ K. simplified_list false K (all_parts_of false Fs))) (some_by (reading_at p) Fs) (some_by (reading_at p) Fs)
-        (λ K k. list_truth false K (all_parts_of false Fs) h.values k h.waiting ∙ h.value) refl
-    stands false (conjunction Fs) =
-        let h = all_stand Fs in
-        one false (other (λ K. simplified_list true K (all_parts_of true Fs))) (all_by (reading_at p) Fs) (all_by (reading_at p) Fs)
-        (λ K k. list_truth true K (all_parts_of true Fs) h.values k h.waiting ∙ h.value) refl
-    stands false (disjunction Fs) = some_stand Fs
+    stands : (J : Judging) → IsSound J → (all : Bool) (F : Formula) → Stands all (parts_by J all F) (truth_at F p)
+    stands J sound all always = one all (settled true) true true refl refl
+    stands J sound all never = one all (settled false) false false refl refl
+    stands J sound all (atom P S) = one all (condition P S) (has S (sign_at P p)) (has S (sign_at P p)) refl refl
+    stands J sound true (conjunction Fs) = all_stand J sound Fs
+    stands J sound true (disjunction Fs) =
+        let h = some_stand J sound Fs in
+        one true (other (λ K. simplified_list_by J false K (all_parts_by J false Fs))) (some_by (reading_at p) Fs) (some_by (reading_at p) Fs)
+        (λ K k. list_truth J sound false K (all_parts_by J false Fs) h.values k h.waiting ∙ h.value) refl
+    stands J sound false (conjunction Fs) =
+        let h = all_stand J sound Fs in
+        one false (other (λ K. simplified_list_by J true K (all_parts_by J true Fs))) (all_by (reading_at p) Fs) (all_by (reading_at p) Fs)
+        (λ K k. list_truth J sound true K (all_parts_by J true Fs) h.values k h.waiting ∙ h.value) refl
+    stands J sound false (disjunction Fs) = some_stand J sound Fs
 
-    all_stand : (Fs : Formulas) → Stands true (all_parts_of true Fs) (all_by (reading_at p) Fs)
-    all_stand none = record { values = []; waiting = tt; value = refl }
-    all_stand (more F Fs) = both true (parts_of true F) (all_parts_of true Fs) (truth_at F p) (all_by (reading_at p) Fs) (stands true F) (all_stand Fs)
+    all_stand : (J : Judging) → IsSound J → (Fs : Formulas) → Stands true (all_parts_by J true Fs) (all_by (reading_at p) Fs)
+    all_stand J sound none = record { values = []; waiting = tt; value = refl }
+    all_stand J sound (more F Fs) =
+        both true (parts_by J true F) (all_parts_by J true Fs) (truth_at F p) (all_by (reading_at p) Fs) (stands J sound true F) (all_stand J sound Fs)
 
-    some_stand : (Fs : Formulas) → Stands false (all_parts_of false Fs) (some_by (reading_at p) Fs)
-    some_stand none = record { values = []; waiting = tt; value = refl }
-    some_stand (more F Fs) = both false (parts_of false F) (all_parts_of false Fs) (truth_at F p) (some_by (reading_at p) Fs) (stands false F) (some_stand Fs)
+    some_stand : (J : Judging) → IsSound J → (Fs : Formulas) → Stands false (all_parts_by J false Fs) (some_by (reading_at p) Fs)
+    some_stand J sound none = record { values = []; waiting = tt; value = refl }
+    some_stand J sound (more F Fs) =
+        both false (parts_by J false F) (all_parts_by J false Fs) (truth_at F p) (some_by (reading_at p) Fs) (stands J sound false F) (some_stand J sound Fs)
 
   decided_truth : (b : Bool) → truth_at (decided b) p ≡ b
   decided_truth true = refl
   decided_truth false = refl
 
-  -- the law
-  pub simplified_truth : (K : Facts) (F : Formula) → AreTrueAt p K → truth_at (simplified_under K F) p ≡ truth_at F p
-  simplified_truth K always h = refl
-  simplified_truth K never h = refl
-  simplified_truth K (atom P S) h =
-      elim (judged K P S) as (λ o. judged K P S ≡ o → truth_at (as_known P S o) p ≡ has S (sign_at P p)) [
+  -- the law, and its instance by the facts alone
+  pub simplified_by_truth : (J : Judging) → IsSound J → (K : Facts) (F : Formula) → AreTrueAt p K → truth_at (simplified_by J K F) p ≡ truth_at F p
+  simplified_by_truth J sound K always h = refl
+  simplified_by_truth J sound K never h = refl
+  simplified_by_truth J sound K (atom P S) h =
+      elim (J.alone K P S) as (λ o. J.alone K P S ≡ o → truth_at (as_known P S o) p ≡ has S (sign_at P p)) [
         | None ↦ λ e. refl
-        | Some b ↦ λ e. decided_truth b ∙ sym (judged_has p P S K b h e)
+        | Some b ↦ λ e. decided_truth b ∙ sym (sound.alone K P S b h e)
       ] refl
-  simplified_truth K (conjunction Fs) h = let s = all_stand Fs in list_truth true K (all_parts_of true Fs) s.values h s.waiting ∙ s.value
-  simplified_truth K (disjunction Fs) h = let s = some_stand Fs in list_truth false K (all_parts_of false Fs) s.values h s.waiting ∙ s.value
+  simplified_by_truth J sound K (conjunction Fs) h =
+      let s = all_stand J sound Fs in list_truth J sound true K (all_parts_by J true Fs) s.values h s.waiting ∙ s.value
+  simplified_by_truth J sound K (disjunction Fs) h =
+      let s = some_stand J sound Fs in list_truth J sound false K (all_parts_by J false Fs) s.values h s.waiting ∙ s.value
+
+  pub simplified_truth : (K : Facts) (F : Formula) → AreTrueAt p K → truth_at (simplified_under K F) p ≡ truth_at F p
+  simplified_truth K F h = simplified_by_truth by_known by_known_is_sound K F h

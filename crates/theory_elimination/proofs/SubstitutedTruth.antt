@@ -4,19 +4,19 @@ use Rattle.std.specs.Prelude.{◌&&◌, ◌||◌}
 use Rattle.std.proofs.Math.IntN.{*ℤ_comm}
 use Rattle.theory_meaning.specs.declared.words.Sign.{Sign}
 use Rattle.theory_meaning.specs.declared.words.Sign.TheVariants.{Minus, Zero, Plus}
-use Rattle.theory_meaning.specs.Fraction.{Fraction, den, difference_of as fraction_difference, product_of as fraction_product}
+use Rattle.theory_meaning.specs.Fraction.{Fraction, den, difference_of as fraction_difference, product_of as fraction_product, opposite_sign}
 use Rattle.theory_meaning.proofs.WholeLaws.{times-swap, flattened}
 use Rattle.theory_meaning.proofs.OrderLaws.{same_itself}
-use Rattle.theory_method.specs.declared.signs.Signs.{Signs}
-use Rattle.theory_method.specs.declared.signs.Signs.TheVariants as set
-use Rattle.theory_method.specs.Signs.{has, is_zero, mirror, without_zero, opposite_sign, sign_of, sign_of_whole}
-use Rattle.theory_method.specs.Polynomial.{Monomial, IsPolynomial}
-use Rattle.theory_method.specs.PolynomialValue.{Values, symbol_at, polynomial_at}
-use Rattle.theory_method.specs.Formula.{Formula, Formulas, always, never, atom, conjunction, disjunction, none, more, Reading, sign_at, truth_at, truth_by, all_by, some_by, reading_at, EachAtom, EachAtomOfAll}
-use Rattle.theory_method.proofs.ConditionLaws.{sign_of_own, sign_of_only, condition_truth, mirror_has_opposite}
-use Rattle.theory_method.proofs.SignLaws.{cross_sign}
-use Rattle.theory_elimination.specs.TestPoint.{TestPoint, infinity, root, before, slope_in, base_in, holds_symbol}
-use Rattle.theory_elimination.specs.Substituted.{both, either, IsConditionOn, along_slope, IsCrossOf, IsAtInfinity, IsAtRoot, IsJustBefore, IsLineAt, IsAtomWhere, IsAtomAt, IsFormulaAt, AreFormulasAt}
+use Rattle.theory_formula.specs.declared.signs.Signs.{Signs}
+use Rattle.theory_formula.specs.declared.signs.Signs.TheVariants as set
+use Rattle.theory_formula.specs.Signs.{has, is_zero, mirror, without_zero, sign_of, sign_of_whole}
+use Rattle.theory_polynomial.specs.Polynomial.{Monomial, IsPolynomial}
+use Rattle.theory_polynomial.specs.PolynomialValue.{Values, symbol_at, polynomial_at, slope_in, base_in}
+use Rattle.theory_formula.specs.Formula.{Formula, Formulas, always, never, atom, conjunction, disjunction, none, more, Reading, sign_at, truth_at, truth_by, all_by, some_by, reading_at, EachAtom, EachAtomOfAll, both, either}
+use Rattle.theory_formula.proofs.ConditionLaws.{sign_of_own, sign_of_only, condition_truth, mirror_has_opposite}
+use Rattle.theory_polynomial.proofs.SignLaws.{cross_sign}
+use Rattle.theory_elimination.specs.TestPoint.{TestPoint, infinity, root, before, holds_symbol}
+use Rattle.theory_elimination.specs.Substituted.{IsConditionOn, along_slope, IsCrossOf, IsAtInfinity, IsAtRoot, IsJustBefore, IsLineAt, IsAtomWhere, IsAtomAt, IsFormulaAt, AreFormulasAt}
 use Rattle.theory_elimination.specs.Elimination.{IsLinearAtom}
 use Rattle.theory_elimination.proofs.SetTruth.{picked, made_of, none_made}
 use Rattle.theory_elimination.proofs.SignSums.{times}
@@ -32,7 +32,7 @@ cut_of p infinity = top
 cut_of p (root a b s) = on (root_of (line_at p a b))
 cut_of p (before a b s) = just_before (root_of (line_at p a b))
 
--- the slope of the test point's line has the sign that is told, and it isn't zero
+-- the slope of the test point's line has the sign that it is said to have, and it isn't zero
 abbrev pub HasGuard : Values → TestPoint → Type 0
 HasGuard p infinity = Unit {0}
 HasGuard p (root a b s) = (sign_at a p ≡ s) × (s ≡ Zero → ⊥)

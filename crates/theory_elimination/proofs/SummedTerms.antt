@@ -9,8 +9,8 @@ use Rattle.std.specs.Str.{bytes_eq}
 use Rattle.std.proofs.lemmas.Bool.{cases_Bool}
 use Rattle.std.proofs.lemmas.Cmp.{nat_list_cmp_total}
 use Rattle.std.proofs.lemmas.Int.{ints}
-use Rattle.theory_method.specs.Polynomial.{Monomial, monomial, coefficient_at, IsTerm, Precedes, PrecedesFirst, IsPolynomial, IsPolynomialOf, scaled, powers_of_product, multiple_of, product_of, cross_of}
-use Rattle.theory_method.proofs.FixedOrder.{precedes_rest, tied_are_equal}
+use Rattle.theory_polynomial.specs.Polynomial.{Monomial, monomial, coefficient_at, IsTerm, Precedes, PrecedesFirst, IsPolynomial, IsPolynomialOf, scaled, powers_of_product, multiple_of, product_of, cross_of}
+use Rattle.theory_polynomial.proofs.FixedOrder.{precedes_rest, tied_are_equal}
 
 -- the coefficient of a term at an exponent list
 own : Monomial → List ℕ → ℤ

@@ -1,11 +1,12 @@
 -- A formula with a top equation is that equation and the other members.
 use Rattle.std.proofs.Common.{◌≡◌, ℕ, Bool, true, false, List, [], ◌∷◌, ◌++◌, Option, None, Some, refl, sym, ap, ◌∙◌, subst, append_assoc, ◌⊎◌, inl, inr}
 use Rattle.std.specs.Prelude.{◌&&◌}
-use Rattle.theory_method.specs.declared.signs.Signs.{Signs}
-use Rattle.theory_method.specs.declared.signs.Signs.TheVariants as set
-use Rattle.theory_method.specs.Polynomial.{Monomial}
-use Rattle.theory_method.specs.Formula.{Formula, Formulas, always, never, atom, conjunction, disjunction, none, more, Reading, truth_by, all_by, formulas_list, formulas_from, EachAtom, EachAtomOfAll}
-use Rattle.theory_elimination.specs.TestPoint.{slope_in, holds_symbol, is_constant}
+use Rattle.theory_formula.specs.declared.signs.Signs.{Signs}
+use Rattle.theory_formula.specs.declared.signs.Signs.TheVariants as set
+use Rattle.theory_polynomial.specs.Polynomial.{Monomial}
+use Rattle.theory_formula.specs.Formula.{Formula, Formulas, always, never, atom, conjunction, disjunction, none, more, Reading, truth_by, all_by, formulas_list, formulas_from, EachAtom, EachAtomOfAll}
+use Rattle.theory_elimination.specs.TestPoint.{holds_symbol, is_constant}
+use Rattle.theory_polynomial.specs.PolynomialValue.{slope_in}
 use Rattle.theory_elimination.specs.Branches.{equation_if, equation_of, if_plain, plain_equation_of, Taken, taken_at, taken_behind, or_else, members_of, top_equation, others_of}
 
 -- all formulas of a list are true

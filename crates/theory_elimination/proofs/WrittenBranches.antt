@@ -4,15 +4,16 @@ use Rattle.std.specs.Prelude.{slice_get, if◌then◌else◌}
 use Rattle.std.proofs.lemmas.Bool.{cases_lt}
 use Rattle.theory_meaning.specs.declared.words.Sign.{Sign}
 use Rattle.theory_meaning.specs.declared.words.Sign.TheVariants.{Plus, Minus}
-use Rattle.theory_method.specs.declared.signs.Signs.{Signs}
-use Rattle.theory_method.specs.declared.signs.Signs.TheVariants as set
-use Rattle.theory_method.specs.Signs.{has, mirror, without_zero, sign_of_whole}
-use Rattle.theory_method.specs.Polynomial.{Monomial, coefficient_at, no_powers, greatest_exponent_of, IsPolynomial, cross_of}
-use Rattle.theory_method.specs.Formula.{Formula, Formulas, always, never, atom, conjunction, disjunction, none, more, EachAtomOfAll}
-use Rattle.theory_method.specs.FormulaAtoms.{atoms_of}
-use Rattle.theory_method.specs.SignCondition.{HasSymbol, decided, IsAtomOf}
-use Rattle.theory_elimination.specs.TestPoint.{TestPoint, infinity, root, before, slope_in, base_in, holds_symbol, is_constant, constant_sign, ends_of_atoms, test_points}
-use Rattle.theory_elimination.specs.Substituted.{both, either, IsConditionOn, along_slope, IsLineAt, IsAtomWhere, IsFormulaAt, AreFormulasAt}
+use Rattle.theory_formula.specs.declared.signs.Signs.{Signs}
+use Rattle.theory_formula.specs.declared.signs.Signs.TheVariants as set
+use Rattle.theory_formula.specs.Signs.{has, mirror, without_zero, sign_of_whole}
+use Rattle.theory_polynomial.specs.Polynomial.{Monomial, coefficient_at, no_powers, greatest_exponent_of, IsPolynomial, cross_of}
+use Rattle.theory_formula.specs.Formula.{Formula, Formulas, always, never, atom, conjunction, disjunction, none, more, EachAtomOfAll, both, either}
+use Rattle.theory_formula.specs.FormulaAtoms.{atoms_of}
+use Rattle.theory_formula.specs.SignCondition.{HasSymbol, decided, IsAtomOf}
+use Rattle.theory_elimination.specs.TestPoint.{TestPoint, infinity, root, before, holds_symbol, is_constant, constant_sign, ends_of_atoms, test_points}
+use Rattle.theory_polynomial.specs.PolynomialValue.{slope_in, base_in}
+use Rattle.theory_elimination.specs.Substituted.{IsConditionOn, along_slope, IsLineAt, IsAtomWhere, IsFormulaAt, AreFormulasAt}
 use Rattle.theory_elimination.specs.Branches.{only, Plan, guarded, level, plan_at, Taken, top_equation, others_of, root_plans, plans_by, branch_plans, IsWrittenBy, IsBranch}
 use Rattle.theory_elimination.specs.Elimination.{IsLinearAtom, IsLinear}
 use Rattle.theory_elimination.proofs.AtomLists.{rows_of_atoms}

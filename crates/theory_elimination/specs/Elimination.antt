@@ -1,11 +1,12 @@
 -- What the branches of a formula in a symbol say of its values.
 use Rattle.std.specs.Prelude.{◌≡◌, ℕ, zero, suc, List, ◌∷◌, Some, slice_get}
 use Rattle.theory_meaning.specs.Fraction.{Fraction}
-use Rattle.theory_method.specs.declared.signs.Signs.{Signs}
-use Rattle.theory_method.specs.Polynomial.{Monomial, IsLinearIn, IsFreeOf}
-use Rattle.theory_method.specs.PolynomialValue.{Values, first_of, rest_of}
-use Rattle.theory_method.specs.SignCondition.{IsAtomPolynomial}
-use Rattle.theory_method.specs.Formula.{Formula, EachAtom, IsTrueAt}
+use Rattle.theory_formula.specs.declared.signs.Signs.{Signs}
+use Rattle.theory_polynomial.specs.Polynomial.{Monomial, IsLinearIn}
+use Rattle.theory_polynomial.specs.PolynomialValue.{Values, first_of, rest_of}
+use Rattle.theory_formula.specs.SignCondition.{IsAtomPolynomial}
+pub use Rattle.theory_formula.specs.Symbols.{IsFree}
+use Rattle.theory_formula.specs.Formula.{Formula, EachAtom, IsTrueAt}
 use Rattle.theory_elimination.specs.Branches.{level, branch_plans, IsBranch}
 
 -- the point with this value of the symbol
@@ -22,13 +23,9 @@ pub record IsLinearAtom (x : ℕ) (P : List Monomial) (S : Signs) : Type 0 where
 abbrev pub IsLinear : ℕ → Formula → Type 0
 IsLinear x F = EachAtom (IsLinearAtom x) F
 
--- the k-th branch is true at the point, however it is written
+-- the k-th branch is there, and true at the point
 abbrev pub BranchIsTrueAt : ℕ → Formula → Values → ℕ → Type 0
-BranchIsTrueAt x F p k = (G : Formula) → IsBranch x F k G → IsTrueAt p G
-
--- the symbol occurs in no atom
-abbrev pub IsFree : ℕ → Formula → Type 0
-IsFree x F = EachAtom (λ P S. IsFreeOf x P) F
+BranchIsTrueAt x F p k = (G : Formula) × IsBranch x F k G × IsTrueAt G p
 
 -- the k-th branch is that of an equation whose slope and base are zero, the third one
 abbrev pub IsLevelBranch : ℕ → Formula → ℕ → Type 0

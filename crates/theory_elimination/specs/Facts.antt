@@ -2,11 +2,11 @@
 use Rattle.std.specs.Prelude.{Bool, true, false, not, ◌&&◌, ◌||◌, if◌then◌else◌, List, [], ◌∷◌, Option, None, Some, IsTrue}
 use Rattle.std.specs.Option.{unwrap_or}
 use Rattle.theory_meaning.specs.declared.words.Sign.TheVariants.{Minus, Zero, Plus}
-use Rattle.theory_method.specs.declared.signs.Signs.{Signs}
-use Rattle.theory_method.specs.Signs.{has, meet}
-use Rattle.theory_method.specs.Terms.{Monomial}
-use Rattle.theory_method.specs.PolynomialValue.{Values}
-use Rattle.theory_method.specs.Formula.{sign_at}
+use Rattle.theory_formula.specs.declared.signs.Signs.{Signs}
+use Rattle.theory_formula.specs.Signs.{has, meet}
+use Rattle.theory_polynomial.specs.Terms.{Monomial}
+use Rattle.theory_polynomial.specs.PolynomialValue.{Values}
+use Rattle.theory_formula.specs.Formula.{sign_at}
 use Rattle.theory_elimination.specs.SameFormula.{is_same_poly}
 
 -- the sign of the polynomial is in the set

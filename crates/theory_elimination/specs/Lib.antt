@@ -1,9 +1,12 @@
 pub mod SameFormula
 pub mod Facts
+pub mod Members
+pub mod Judging
 pub mod Simplified
 pub mod WorkedForms
 pub mod TestPoint
 pub mod Substituted
+pub mod TopEquation
 pub mod Branches
 pub mod Elimination
 pub mod Widths

@@ -3,21 +3,15 @@
 use Rattle.std.specs.Prelude.{◌≡◌, ℕ, Bool, true, false, List, Option, None, Some}
 use Rattle.theory_meaning.specs.declared.words.Sign.{Sign}
 use Rattle.theory_meaning.specs.declared.words.Sign.TheVariants.{Minus}
-use Rattle.theory_method.specs.declared.signs.Signs.{Signs}
-use Rattle.theory_method.specs.declared.signs.Signs.TheVariants as set
-use Rattle.theory_method.specs.Signs.{mirror, without_zero}
-use Rattle.theory_method.specs.Polynomial.{Monomial, IsPrimitiveOf, cross_of}
-use Rattle.theory_method.specs.Formula.{Formula, Formulas, always, never, atom, conjunction, disjunction, none, more}
-use Rattle.theory_method.specs.SignCondition.{IsAtomOf}
-use Rattle.theory_elimination.specs.TestPoint.{TestPoint, infinity, root, before, slope_in, base_in, holds_symbol}
-
--- both formulas are true
-abbrev pub both : Formula → Formula → Formula
-both F G = conjunction (more F (more G none))
-
--- at least one of two formulas is true
-abbrev pub either : Formula → Formula → Formula
-either F G = disjunction (more F (more G none))
+use Rattle.theory_formula.specs.declared.signs.Signs.{Signs}
+use Rattle.theory_formula.specs.declared.signs.Signs.TheVariants as set
+use Rattle.theory_formula.specs.Signs.{mirror, without_zero}
+use Rattle.theory_polynomial.specs.Polynomial.{Monomial, IsPrimitiveOf, cross_of}
+use Rattle.theory_formula.specs.Formula.{Formula, Formulas, always, never, atom, conjunction, disjunction, none, more}
+pub use Rattle.theory_formula.specs.Formula.{both, either}
+use Rattle.theory_formula.specs.SignCondition.{IsAtomOf}
+use Rattle.theory_elimination.specs.TestPoint.{TestPoint, infinity, root, before, holds_symbol}
+use Rattle.theory_polynomial.specs.PolynomialValue.{slope_in, base_in}
 
 -- the condition on a polynomial, which is never true where no sign is left
 abbrev pub IsConditionOn : List Monomial → Option Signs → Formula → Type 0

@@ -4,22 +4,14 @@ use Rattle.std.specs.Prelude.{ℕ, Bool, true, false, ◌==◌, ◌&&◌, nat_lt
 use Rattle.std.specs.List.{list_any}
 use Rattle.theory_meaning.specs.declared.words.Sign.{Sign}
 use Rattle.theory_meaning.specs.declared.words.Sign.TheVariants.{Minus, Zero, Plus}
-use Rattle.theory_method.specs.declared.signs.Signs.{Signs}
-use Rattle.theory_method.specs.declared.signs.Signs.TheVariants as set
-use Rattle.theory_method.specs.Signs.{sign_of_whole}
-use Rattle.theory_method.specs.Polynomial.{Monomial, coefficient_at, no_powers, degree_in, greatest_exponent_of}
-use Rattle.theory_method.specs.PolynomialValue.{part_of}
-use Rattle.theory_method.specs.Formula.{Formula}
-use Rattle.theory_method.specs.FormulaAtoms.{atoms_of}
+use Rattle.theory_formula.specs.declared.signs.Signs.{Signs}
+use Rattle.theory_formula.specs.declared.signs.Signs.TheVariants as set
+use Rattle.theory_formula.specs.Signs.{sign_of_whole}
+use Rattle.theory_polynomial.specs.Polynomial.{Monomial, coefficient_at, no_powers, degree_in, greatest_exponent_of}
+use Rattle.theory_polynomial.specs.PolynomialValue.{slope_in, base_in}
+use Rattle.theory_formula.specs.Formula.{Formula}
+use Rattle.theory_formula.specs.FormulaAtoms.{atoms_of}
 use Rattle.theory_elimination.specs.SameFormula.{is_same_poly}
-
--- the slope of a polynomial that is linear in the symbol
-abbrev pub slope_in : ℕ → List Monomial → List Monomial
-slope_in x P = part_of x 1 P
-
--- the base of a polynomial that is linear in the symbol: its part without the symbol
-abbrev pub base_in : ℕ → List Monomial → List Monomial
-base_in x P = part_of x 0 P
 
 -- the symbol occurs
 abbrev pub holds_symbol : ℕ → List Monomial → Bool

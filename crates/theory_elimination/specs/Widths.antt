@@ -1,23 +1,12 @@
 -- When a cross product of a formula at a test point, or of a branch, passes a limit. Source: this project's own.
-use Rattle.std.specs.Prelude.{◌≡◌, ◌⊎◌, ℕ, List, Some, slice_get, IsTrue}
-use Rattle.theory_method.specs.declared.signs.Signs.{Signs}
-use Rattle.theory_method.specs.Polynomial.{Monomial, cross_of, IsBeyondDivided}
-use Rattle.theory_method.specs.Formula.{Formula, Formulas, always, never, atom, conjunction, disjunction, none, more}
-use Rattle.theory_elimination.specs.TestPoint.{TestPoint, infinity, root, before, slope_in, base_in, holds_symbol}
+use Rattle.std.specs.Prelude.{◌≡◌, ℕ, List, Some, slice_get, IsTrue}
+use Rattle.theory_formula.specs.declared.signs.Signs.{Signs}
+use Rattle.theory_polynomial.specs.Polynomial.{Monomial, cross_of, IsBeyondDivided}
+use Rattle.theory_formula.specs.Formula.{Formula}
+pub use Rattle.theory_formula.specs.Symbols.{SomeAtom, SomeAtomAmong}
+use Rattle.theory_elimination.specs.TestPoint.{TestPoint, infinity, root, before, holds_symbol}
+use Rattle.theory_polynomial.specs.PolynomialValue.{slope_in, base_in}
 use Rattle.theory_elimination.specs.Branches.{Plan, plain, guarded, level, branch_plans}
-
--- a fact of some atom
-abbrev mutual
-  pub SomeAtom : (List Monomial → Signs → Type 0) → Formula → Type 0
-  SomeAtom Q always = ⊥
-  SomeAtom Q never = ⊥
-  SomeAtom Q (atom P S) = Q P S
-  SomeAtom Q (conjunction Fs) = SomeAtomAmong Q Fs
-  SomeAtom Q (disjunction Fs) = SomeAtomAmong Q Fs
-
-  pub SomeAtomAmong : (List Monomial → Signs → Type 0) → Formulas → Type 0
-  SomeAtomAmong Q none = ⊥
-  SomeAtomAmong Q (more F Fs) = SomeAtom Q F ⊎ SomeAtomAmong Q Fs
 
 -- what is left of the cross product of this slope and base with those of an atom that holds the symbol passes a limit
 abbrev pub IsWideCross : ℕ → List Monomial → List Monomial → List Monomial → Signs → Type 0

@@ -1,8 +1,8 @@
 -- Formulas in x and y, symbols 0 and 1, and their simplified forms, worked out by hand.
 use Rattle.std.specs.Prelude.{List}
-use Rattle.theory_method.specs.declared.signs.Signs.TheVariants.{Neg, Zero, Pos, NotPos, NotNeg}
-use Rattle.theory_method.specs.Terms.{Monomial, symbol_of}
-use Rattle.theory_method.specs.Formula.{Formula, always, atom, conjunction, disjunction, none, more}
+use Rattle.theory_formula.specs.declared.signs.Signs.TheVariants.{Neg, Zero, Pos, NotPos, NotNeg}
+use Rattle.theory_polynomial.specs.Terms.{Monomial, symbol_of}
+use Rattle.theory_formula.specs.Formula.{Formula, always, atom, conjunction, disjunction, none, more, both, either}
 
 -- the symbol x
 abbrev pub x : List Monomial
@@ -11,14 +11,6 @@ x = symbol_of 0
 -- the symbol y
 abbrev pub y : List Monomial
 y = symbol_of 1
-
--- both formulas are true
-abbrev pub both : Formula → Formula → Formula
-both F G = conjunction (more F (more G none))
-
--- at least one of two formulas is true
-abbrev pub either : Formula → Formula → Formula
-either F G = disjunction (more F (more G none))
 
 -- x >= 0, and x < 0 or y = 0, and x <= 0: met to x = 0, under which x < 0 is false
 abbrev pub met_members : Formula

@@ -1,9 +1,9 @@
 -- Test points and branches in x of formulas in x, y and z, symbols 0, 1 and 2, worked out by hand.
 use Rattle.std.specs.Prelude.{List, [], ◌∷◌, pos, negsuc, slice_set}
 use Rattle.theory_meaning.specs.declared.words.Sign.TheVariants.{Plus, Minus}
-use Rattle.theory_method.specs.declared.signs.Signs.TheVariants.{Neg, Zero, NotPos}
-use Rattle.theory_method.specs.Terms.{Monomial, monomial, no_powers, symbol_of, constant_of}
-use Rattle.theory_method.specs.Formula.{Formula, atom, conjunction, disjunction, none, more}
+use Rattle.theory_formula.specs.declared.signs.Signs.TheVariants.{Neg, Zero, NotPos}
+use Rattle.theory_polynomial.specs.Terms.{Monomial, monomial, no_powers, symbol_of, constant_of}
+use Rattle.theory_formula.specs.Formula.{Formula, atom, conjunction, disjunction, none, more}
 use Rattle.theory_elimination.specs.TestPoint.{TestPoint, infinity, root, before}
 use Rattle.theory_elimination.specs.Branches.{Plan, plain, guarded, level}
 

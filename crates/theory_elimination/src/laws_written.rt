@@ -1,5 +1,5 @@
 ghost use Rattle.std.specs.Prelude.{ℕ, ◌<◌, length};
-ghost use Rattle.theory_method.specs.Formula.{Formula};
+ghost use Rattle.theory_formula.specs.Formula.{Formula};
 ghost use Rattle.theory_elimination.specs.Branches.{IsBranch, branch_plans};
 ghost use Rattle.theory_elimination.specs.Elimination.{IsLinear};
 

@@ -13,8 +13,8 @@ use Rattle.theory_grammar.specs.declared.words.LineFaultKind.{LineFaultKind}
 use Rattle.theory_grammar.specs.declared.words.LineFaultKind.TheVariants.{Unexpected, ZeroBelow, Exponent, Deep}
 use Rattle.theory_grammar.specs.Token.{Token, keyword, name, dotted, number, mark, relation}
 use Rattle.theory_grammar.specs.Spelled.{every}
-use Rattle.theory_grammar.proofs.Machine.{State, start, Place, ClaimPlace, Heading, Context, left_of_equation, right_of_equation, left_of_atom, right_of_atom, Move, gate, step}
-use Rattle.theory_grammar.proofs.Machine as m
+use Rattle.theory_grammar.specs.Machine.{State, start, Place, ClaimPlace, Heading, Context, left_of_equation, right_of_equation, left_of_atom, right_of_atom, Move, gate, step}
+use Rattle.theory_grammar.specs.Machine as m
 use Rattle.theory_grammar.proofs.Following.{lets, only_if, Agrees}
 
 -- a step that no limit bounds

@@ -11,9 +11,9 @@ use Rattle.theory_grammar.specs.declared.words.LineFaultKind.{LineFaultKind}
 use Rattle.theory_grammar.specs.declared.words.LineFaultKind.TheVariants.{ZeroBelow, Exponent}
 use Rattle.theory_grammar.specs.Token.{Token, keyword, name, number, mark, relation}
 use Rattle.theory_grammar.specs.Spelled.{Limits, lowest}
-use Rattle.theory_grammar.proofs.Machine.{State, Place, ClaimPlace, Heading, assumption, assertion, Context, left_of_equation, right_of_equation, left_of_atom, right_of_atom, gate, step, ended}
-use Rattle.theory_grammar.proofs.Machine as m
-use Rattle.theory_grammar.proofs.Following.{runs, and_then}
+use Rattle.theory_grammar.specs.Machine.{State, Place, ClaimPlace, Heading, assumption, assertion, Context, left_of_equation, right_of_equation, left_of_atom, right_of_atom, gate, step, ended, and_then}
+use Rattle.theory_grammar.specs.Machine as m
+use Rattle.theory_grammar.proofs.Following.{runs}
 
 module _ (limits : Limits) where
   abbrev tree : State → List Token → Option Line

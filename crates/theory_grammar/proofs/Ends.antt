@@ -7,8 +7,8 @@ use Rattle.theory_grammar.specs.declared.words.Mark.TheVariants as sign
 use Rattle.theory_grammar.specs.Token.{Token, keyword, mark}
 use Rattle.theory_grammar.specs.Spelled.{Limits, has_room, IsExpr, IsClaim, AreConjuncts, AreDisjuncts, conjunction_of, disjunction_of}
 use Rattle.theory_grammar.specs.Spelled as rule
-use Rattle.theory_grammar.proofs.Machine.{Left, alone, plus, minus, Place, ClaimPlace, Heading, Context}
-use Rattle.theory_grammar.proofs.Machine as m
+use Rattle.theory_grammar.specs.Machine.{Left, alone, plus, minus, Place, ClaimPlace, Heading, Context}
+use Rattle.theory_grammar.specs.Machine as m
 use Rattle.theory_grammar.proofs.Reached.{Sums, Products, Signs, Others, Premises, Disjuncts, Conjuncts, Outside, Behind, BehindTerm, BehindClaim}
 
 module _ (limits : Limits) where

@@ -6,7 +6,7 @@ use Rattle.theory_meaning.specs.Tree as plain
 use Rattle.theory_grammar.specs.declared.words.Mark.TheVariants as sign
 use Rattle.theory_grammar.specs.Token.{Token, mark}
 use Rattle.theory_grammar.specs.Spelled.{every, has_room, Level, sum, term, factor, power, primary, IsExpr, whole_number, identifier, dotted_name, bracket, one_primary, raised, one_power, fraction, negated, one_factor, times, one_term, plus, minus}
-use Rattle.theory_grammar.specs.Printed.{round_unless, is_term, is_factor, is_primary, expr_text}
+use Rattle.theory_grammar.specs.Printed.{round_unless, is_term, is_factor, is_primary, is_power, expr_text}
 use Rattle.theory_grammar.proofs.LeadLaws.{Leads, joined_by, closed_by, nothing_more, any_open, mark_leads, apart}
 
 -- behind fewer open signs there is room too
@@ -39,12 +39,9 @@ own (plain.difference u v) = sum
 own (plain.opposite u) = factor
 own (plain.product u v) = term
 own (plain.power u k) = power
+own (plain.quotient u v) = term
 
 -- and whether it stands so at a level
-abbrev pub is_power : Expr → Bool
-is_power (plain.power u k) = true
-is_power x = is_primary x
-
 abbrev pub stands : Level → Expr → Bool
 stands sum x = true
 stands term x = is_term x
@@ -137,6 +134,11 @@ stands_reaches term (plain.power u k) h = refl
 stands_reaches factor (plain.power u k) h = refl
 stands_reaches power (plain.power u k) h = refl
 stands_reaches primary (plain.power u k) h = h
+stands_reaches sum (plain.quotient u v) h = refl
+stands_reaches term (plain.quotient u v) h = refl
+stands_reaches factor (plain.quotient u v) h = h
+stands_reaches power (plain.quotient u v) h = h
+stands_reaches primary (plain.quotient u v) h = h
 
 -- the printed form without brackets around it is read as tokens of its own level
 pub record Bare (d : ℕ) (x : Expr) : Type 0 where

@@ -6,7 +6,8 @@ use Rattle.theory_grammar.specs.declared.words.LineFaultKind.TheVariants.{Unexpe
 use Rattle.theory_grammar.specs.Token.{Token}
 use Rattle.theory_grammar.specs.Spelled.{Limits, every, unlimited}
 use Rattle.theory_grammar.specs.LineFault.{Grammar, CanGoOn, TakesNext, IsKind, FirstFault, IsUnambiguous, SpellsOrFails, NeverBoth, HasOneFault}
-use Rattle.theory_grammar.proofs.Following.{Outcome, at_end, read, fault, Step, and_then, runs, after, reads, lets, only_if, Agrees, Goes, Laws, Next, Stuck, split, stop, along, whole, run_way, first_step}
+use Rattle.theory_grammar.specs.Machine.{and_then}
+use Rattle.theory_grammar.proofs.Following.{Outcome, at_end, read, fault, Step, runs, after, reads, lets, only_if, Agrees, Goes, Laws, Next, Stuck, split, stop, along, whole, run_way, first_step}
 
 -- what isn't counted within all limits but one is that one
 lets_only_below : (kind : LineFaultKind) → lets (record every { below = false }) kind ≡ true → kind ≡ ZeroBelow

@@ -4,6 +4,7 @@ use Rattle.std.specs.Prelude.{not}
 use Rattle.std.proofs.lemmas.List.{append-nil}
 use Rattle.theory_grammar.specs.declared.words.LineFaultKind.{LineFaultKind}
 use Rattle.theory_grammar.specs.declared.words.LineFaultKind.TheVariants.{Unexpected, ZeroBelow, Exponent, Deep}
+use Rattle.theory_grammar.specs.Machine.{and_then}
 use Rattle.theory_grammar.specs.Token.{Token}
 use Rattle.theory_grammar.specs.Spelled.{Limits, every}
 use Rattle.theory_grammar.specs.LineFault.{Grammar}
@@ -15,11 +16,6 @@ pub data Outcome (T : Type 0) : Type 0 where
 
 abbrev pub Step : Type 0 → Type 0
 Step S = Limits → S → Token → Result S LineFaultKind
-
--- what becomes of the result of a step
-abbrev pub and_then : {S A : Type 0} → Result S LineFaultKind → (S → A) → (LineFaultKind → A) → A
-and_then (Ok st) f g = f st
-and_then (Err kind) f g = g kind
 
 -- the tree of the tokens from a state on, if they end well
 abbrev pub runs : {S T : Type 0} → Step S → (S → Option T) → Limits → S → List Token → Option T

@@ -9,7 +9,6 @@ pub mod LineFaultLaws
 pub mod TextOutcomes
 pub mod TextLaws
 pub mod OneLineLaws
-pub mod Machine
 pub mod Following
 pub mod FaultLaws
 pub mod Agreeing

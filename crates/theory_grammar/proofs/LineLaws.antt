@@ -8,8 +8,8 @@ use Rattle.theory_meaning.specs.Tree as plain
 use Rattle.theory_grammar.specs.Token.{Token, name, relation}
 use Rattle.theory_grammar.specs.Spelled.{Limits, IsExpr, IsClaim, IsLine}
 use Rattle.theory_grammar.specs.Spelled as rule
-use Rattle.theory_grammar.proofs.Machine.{State, start, Heading, assumption, assertion, left_of_equation, right_of_equation, step, ended}
-use Rattle.theory_grammar.proofs.Machine as m
+use Rattle.theory_grammar.specs.Machine.{State, start, Heading, assumption, assertion, left_of_equation, right_of_equation, step, ended}
+use Rattle.theory_grammar.specs.Machine as m
 use Rattle.theory_grammar.proofs.Following.{Laws}
 use Rattle.theory_grammar.proofs.Agreeing.{agrees}
 use Rattle.theory_grammar.proofs.Closing.{closes}

@@ -10,10 +10,10 @@ use Rattle.theory_grammar.specs.declared.words.LineFaultKind.{LineFaultKind}
 use Rattle.theory_grammar.specs.Token.{Token, name}
 use Rattle.theory_grammar.specs.Spelled.{Limits, every, IsLine, IsOp}
 use Rattle.theory_grammar.specs.Spelled as rule
-use Rattle.theory_grammar.proofs.Machine.{State}
-use Rattle.theory_grammar.proofs.Machine as line
+use Rattle.theory_grammar.specs.Machine.{State, and_then}
+use Rattle.theory_grammar.specs.Machine as line
 use Rattle.theory_grammar.proofs.OpMachine.{OpState, op_start, putting, key_to_drop, dropped, op_word, at_op_start, at_key, within_put, op_step, put_ended, op_ended}
-use Rattle.theory_grammar.proofs.Following.{and_then, runs, lets, only_if, Agrees, Goes, Laws}
+use Rattle.theory_grammar.proofs.Following.{runs, lets, only_if, Agrees, Goes, Laws}
 use Rattle.theory_grammar.proofs.Reached.{Reached}
 use Rattle.theory_grammar.proofs.LineLaws.{line_laws}
 

@@ -8,9 +8,8 @@ use Rattle.theory_grammar.specs.declared.words.LineFaultKind.{LineFaultKind}
 use Rattle.theory_grammar.specs.declared.words.LineFaultKind.TheVariants.{Unexpected}
 use Rattle.theory_grammar.specs.Token.{Token, name}
 use Rattle.theory_grammar.specs.Spelled.{Limits}
-use Rattle.theory_grammar.proofs.Machine.{State}
-use Rattle.theory_grammar.proofs.Machine as line
-use Rattle.theory_grammar.proofs.Following.{and_then}
+use Rattle.theory_grammar.specs.Machine.{State, and_then}
+use Rattle.theory_grammar.specs.Machine as line
 
 -- how far an edit was read
 pub data OpState : Type 0 where

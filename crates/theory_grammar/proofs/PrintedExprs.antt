@@ -12,11 +12,11 @@ use Rattle.theory_grammar.specs.Token.{Token, name, dotted, number, mark, relati
 use Rattle.theory_grammar.specs.Spelled.{every, is_below, common_divisor, lowest, Level, sum, term, factor, power, primary, IsExpr, whole_number, identifier, dotted_name, bracket, one_primary, raised, one_power, fraction, negated, one_factor, times, one_term, plus, minus}
 use Rattle.theory_meaning.specs.declared.words.Rel.{Rel}
 use Rattle.theory_grammar.specs.Signs.{relation_bytes}
-use Rattle.theory_grammar.specs.Printed.{sides_text, is_term, is_factor, is_primary, expr_text}
+use Rattle.theory_grammar.specs.Printed.{sides_text, is_term, is_factor, is_primary, expr_text, is_power}
 use Rattle.theory_grammar.proofs.LowestLaws.{is_gcd, lowest_terms}
 use Rattle.theory_grammar.proofs.LeadLaws.{Leads, joined_by, closed_by, between, nothing_more, blank_leads, mark_leads, relation_leads, number_leads, apart}
 use Rattle.theory_grammar.proofs.MeantLaws.{name_leads, dotted_leads, number_within, AreMeant, meant_front, meant_behind}
-use Rattle.theory_grammar.proofs.ExprLevels.{own, is_power, lift, reaches_sum, Bare, Printable, printed, looser, lower_bare}
+use Rattle.theory_grammar.proofs.ExprLevels.{own, lift, reaches_sum, Bare, Printable, printed, looser, lower_bare}
 
 -- a whole number
 natural : (n : ℕ) → is_primary (plain.number (whole (pos n))) ≡ true
@@ -110,6 +110,7 @@ printable d (one_primary {x = x} k) h = looser primary power (primary_is_power x
   primary_is_power (plain.opposite u) e = e
   primary_is_power (plain.product u v) e = e
   primary_is_power (plain.power u n) e = refl
+  primary_is_power (plain.quotient u v) e = e
 printable d (raised {ts = ts} {x = x} {k = n} fits k) h =
     let base = printed primary d x (printable d k (meant_front ts (mark sign.Power ∷ number n ∷ []) h)) in
     let exponent = number_within n (meant_behind ts (mark sign.Power ∷ number n ∷ []) h).1.0 in
@@ -130,6 +131,7 @@ printable d (one_power {x = x} k) h = looser power factor (power_is_factor x) (p
   power_is_factor (plain.opposite u) e = refl
   power_is_factor (plain.product u v) e = e
   power_is_factor (plain.power u n) e = refl
+  power_is_factor (plain.quotient u v) e = e
 printable d (fraction {m = m} {n = n} below) h =
     record { bare = lowest_bare d m n (number_within m h.0) (number_within n h.1.1.0) (ltb-true 0 n below); fits = inl refl }
 printable d (negated {ts = ts} {x = x} room k) h =
@@ -147,6 +149,7 @@ printable d (one_factor {x = x} k) h = looser factor term (factor_is_term x) (pr
   factor_is_term (plain.opposite u) e = refl
   factor_is_term (plain.product u v) e = refl
   factor_is_term (plain.power u n) e = refl
+  factor_is_term (plain.quotient u v) e = refl
 printable d (times {ts = ts} {us = us} {x = x} {y = y} k l) h =
     let p = printed term d x (printable d k (meant_front ts (mark sign.Times ∷ us) h)) in
     let q = printed factor d y (printable d l (meant_behind ts (mark sign.Times ∷ us) h).1) in

@@ -1,5 +1,5 @@
 -- The printed form of a line or an edit that bytes spell: it spells the same one.
-use Rattle.std.proofs.Common.{ℕ, ◌+◌, ◌≤◌, true, false, List, [], ◌∷◌, ◌++◌, length, refl, sym, subst, map}
+use Rattle.std.proofs.Common.{ℕ, ◌+◌, ◌≤◌, true, false, List, [], ◌∷◌, ◌++◌, length, refl, sym, subst, map, ◌≡◌, Some, arith}
 use Rattle.std.specs.Prelude.{codes}
 use Rattle.theory_meaning.specs.Tree.{Line}
 use Rattle.theory_meaning.specs.Text as text
@@ -16,7 +16,6 @@ use Rattle.theory_grammar.specs.TextFault.{SpellsOne}
 use Rattle.theory_grammar.specs.Printed.{further, line_text, op_text}
 use Rattle.theory_grammar.proofs.LeadLaws.{IsApart, Leads, composed, joined_by, closed_by, between, nothing_more, nothing_leads, blank_leads, mark_leads, keyword_leads, line_reads, apart}
 use Rattle.theory_grammar.proofs.MeantLaws.{name_leads, IsMeant, AreMeant, meant_front, meant_behind, tokens_are_meant}
-use Rattle.std.proofs.Common.{◌≡◌, Some, arith}
 use Rattle.std.specs.List.{list_all}
 use Rattle.theory_grammar.specs.LineFault.{Grammar}
 use Rattle.theory_grammar.specs.OneLine.{SpellsLine}

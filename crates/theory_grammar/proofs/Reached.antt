@@ -8,8 +8,8 @@ use Rattle.theory_grammar.specs.declared.words.Mark.TheVariants as sign
 use Rattle.theory_grammar.specs.Token.{Token, keyword, name, number, mark, relation}
 use Rattle.theory_grammar.specs.Spelled.{Limits, has_room, IsExpr, IsClaim, AreConjuncts, AreDisjuncts, IsLine}
 use Rattle.theory_grammar.specs.Spelled as rule
-use Rattle.theory_grammar.proofs.Machine.{State, Left, alone, plus, minus, Place, ClaimPlace, Heading, assumption, assertion, Context, left_of_equation, right_of_equation, left_of_atom, right_of_atom}
-use Rattle.theory_grammar.proofs.Machine as m
+use Rattle.theory_grammar.specs.Machine.{State, Left, alone, plus, minus, Place, ClaimPlace, Heading, assumption, assertion, Context, left_of_equation, right_of_equation, left_of_atom, right_of_atom}
+use Rattle.theory_grammar.specs.Machine as m
 
 module _ (limits : Limits) where
   -- the left side of a sum with its sign

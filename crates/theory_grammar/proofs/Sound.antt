@@ -14,8 +14,8 @@ use Rattle.theory_grammar.specs.declared.words.LineFaultKind.{LineFaultKind}
 use Rattle.theory_grammar.specs.Token.{Token, keyword, name, dotted, number, mark, relation, stray}
 use Rattle.theory_grammar.specs.Spelled.{Limits, has_room, is_exponent, is_below, lowest, IsExpr, IsClaim, AreConjuncts, AreDisjuncts, IsLine}
 use Rattle.theory_grammar.specs.Spelled as rule
-use Rattle.theory_grammar.proofs.Machine.{State, Left, alone, plus, minus, Place, ClaimPlace, Heading, assumption, assertion, Context, left_of_equation, right_of_equation, left_of_atom, right_of_atom, Move, gate, step, ended}
-use Rattle.theory_grammar.proofs.Machine as m
+use Rattle.theory_grammar.specs.Machine.{State, Left, alone, plus, minus, Place, ClaimPlace, Heading, assumption, assertion, Context, left_of_equation, right_of_equation, left_of_atom, right_of_atom, Move, gate, step, ended}
+use Rattle.theory_grammar.specs.Machine as m
 use Rattle.theory_grammar.proofs.Following.{Goes}
 use Rattle.theory_grammar.proofs.Reached.{InPlace, Others, Disjuncts, Conjuncts, InClaimPlace, Heads, ClaimOutside, Outside, Behind, BehindTerm, BehindClaim, Reached}
 use Rattle.theory_grammar.proofs.Ends as ends

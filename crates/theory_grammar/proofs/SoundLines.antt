@@ -10,8 +10,8 @@ use Rattle.theory_grammar.specs.declared.words.Mark.TheVariants as sign
 use Rattle.theory_grammar.specs.Token.{Token, keyword, name, mark}
 use Rattle.theory_grammar.specs.Spelled.{Limits, IsExpr, IsClaim, IsLine}
 use Rattle.theory_grammar.specs.Spelled as rule
-use Rattle.theory_grammar.proofs.Machine.{State, Place, ClaimPlace, Heading, assumption, assertion, Context, left_of_equation, right_of_equation, left_of_atom, right_of_atom, step, ended}
-use Rattle.theory_grammar.proofs.Machine as m
+use Rattle.theory_grammar.specs.Machine.{State, Place, ClaimPlace, Heading, assumption, assertion, Context, left_of_equation, right_of_equation, left_of_atom, right_of_atom, step, ended}
+use Rattle.theory_grammar.specs.Machine as m
 use Rattle.theory_grammar.proofs.Following.{Goes}
 use Rattle.theory_grammar.proofs.Reached.{Outside, BehindTerm, BehindClaim, Heads, Reached}
 use Rattle.theory_grammar.proofs.Ends as ends

@@ -10,9 +10,9 @@ use Rattle.theory_grammar.specs.declared.words.LineFaultKind.TheVariants.{ZeroBe
 use Rattle.theory_grammar.specs.Token.{Token, number, mark}
 use Rattle.theory_grammar.specs.Spelled.{Limits, has_room, is_exponent, is_below, lowest, Level, IsExpr}
 use Rattle.theory_grammar.specs.Spelled as rule
-use Rattle.theory_grammar.proofs.Machine.{State, Left, alone, plus, minus, Place, Context, gate, step, ended}
-use Rattle.theory_grammar.proofs.Machine as m
-use Rattle.theory_grammar.proofs.Following.{runs, and_then}
+use Rattle.theory_grammar.specs.Machine.{State, Left, alone, plus, minus, Place, Context, gate, step, ended, and_then}
+use Rattle.theory_grammar.specs.Machine as m
+use Rattle.theory_grammar.proofs.Following.{runs}
 
 -- signs that would go on with a number, with a factor and with a term
 abbrev pub NotOver : List Token → Type 0

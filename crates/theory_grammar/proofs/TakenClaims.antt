@@ -9,8 +9,8 @@ use Rattle.theory_grammar.specs.declared.words.LineFaultKind.TheVariants.{Deep}
 use Rattle.theory_grammar.specs.Token.{Token, keyword, name, dotted, number, mark, relation, stray}
 use Rattle.theory_grammar.specs.Spelled.{Limits, has_room, Level, IsExpr, Rank, IsClaim, AreConjuncts, AreDisjuncts, conjunction_of, disjunction_of}
 use Rattle.theory_grammar.specs.Spelled as rule
-use Rattle.theory_grammar.proofs.Machine.{State, ClaimPlace, Heading, left_of_atom, right_of_atom}
-use Rattle.theory_grammar.proofs.Machine as m
+use Rattle.theory_grammar.specs.Machine.{State, ClaimPlace, Heading, left_of_atom, right_of_atom}
+use Rattle.theory_grammar.specs.Machine as m
 use Rattle.theory_grammar.proofs.Taken.{run, opened, EndsExpr, taken}
 
 -- no sign that would go on with an expression stands first

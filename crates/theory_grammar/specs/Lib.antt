@@ -10,3 +10,4 @@ pub mod TextFault
 pub mod OneLine
 pub mod RoundTrip
 pub mod Texts
+pub mod Machine

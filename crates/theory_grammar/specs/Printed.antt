@@ -1,22 +1,12 @@
 -- The printed forms of fractions, expressions, claims, lines and edits. docs/MODEL_TEXT.md has them in words.
-use Rattle.std.specs.Prelude.{ℕ, zero, suc, ◌+◌, pos, Bool, true, false, not, ◌&&◌, ◌==◌, int_lt, List, [], ◌∷◌, ◌++◌, Option, None, Some, codes, decimal}
-use Rattle.std.specs.Fmt.{signed_decimal}
+use Rattle.std.specs.Prelude.{ℕ, pos, Bool, true, false, not, ◌&&◌, ◌==◌, int_lt, nat_lt, List, [], ◌∷◌, ◌++◌, Option, None, Some, codes, decimal}
 use Rattle.theory_meaning.specs.declared.words.Rel.{Rel}
 use Rattle.theory_meaning.specs.declared.words.Rel.TheVariants.{Eq}
-use Rattle.theory_meaning.specs.Fraction.{Fraction}
 use Rattle.theory_meaning.specs.Point.{Name}
-use Rattle.theory_meaning.specs.Tree.{Expr, number, symbol, sum, difference, opposite, product, power, Claim, always, never, atom, negation, conjunction, disjunction, implication, equivalence, Claims, none, more, Line, model, var, param, function, equation, assume, claim}
+use Rattle.theory_meaning.specs.Printed.{fraction_text}
+use Rattle.theory_meaning.specs.Tree.{Expr, number, symbol, sum, difference, opposite, product, power, quotient, Claim, always, never, atom, negation, conjunction, disjunction, implication, equivalence, Claims, none, more, Line, model, var, param, function, equation, assume, claim}
 use Rattle.theory_meaning.specs.Text.{Op, put_line, drop_key}
 use Rattle.theory_grammar.specs.Signs.{relation_bytes}
-
--- the denominator behind a slash, or nothing for a whole number
-abbrev pub below_text : ℕ → List ℕ
-below_text zero = []
-below_text (suc less) = codes "/" ++ decimal (suc less + 1)
-
--- a fraction: the numerator, and the denominator where it isn't 1
-abbrev pub fraction_text : Fraction → List ℕ
-fraction_text q = signed_decimal q.num ++ below_text q.less
 
 -- a sign that is left out where the test holds
 abbrev pub unless : Bool → List ℕ → List ℕ
@@ -40,6 +30,7 @@ is_term _ = true
 -- one that stands as a factor: no product either
 abbrev pub is_factor : Expr → Bool
 is_factor (product u v) = false
+is_factor (quotient u v) = false
 is_factor e = is_term e
 
 -- one that stands as a primary: a name, or a whole number that isn't negative
@@ -47,6 +38,20 @@ abbrev pub is_primary : Expr → Bool
 is_primary (number q) = (q.less == 0) && not (int_lt q.num (pos 0))
 is_primary (symbol name) = true
 is_primary _ = false
+
+-- one that stands as a power
+abbrev pub is_power : Expr → Bool
+is_power (power u k) = true
+is_power e = is_primary e
+
+-- text that begins with a digit
+abbrev pub has_digit_first : List ℕ → Bool
+has_digit_first [] = false
+has_digit_first (b ∷ bs) = nat_lt 47 b && nat_lt b 58
+
+-- one that stands as a divisor: at the level of a power, and no digit first, since that would read as a fraction
+abbrev pub is_divisor : Expr → List ℕ → Bool
+is_divisor e text = is_power e && not (has_digit_first text)
 
 -- an expression, with brackets only where the grammar needs them for the same tree
 abbrev pub expr_text : Expr → List ℕ
@@ -57,6 +62,7 @@ expr_text (difference u v) = expr_text u ++ codes " - " ++ round_unless (is_term
 expr_text (opposite u) = codes "-" ++ round_unless (is_factor u) (expr_text u)
 expr_text (product u v) = round_unless (is_term u) (expr_text u) ++ codes "*" ++ round_unless (is_factor v) (expr_text v)
 expr_text (power u k) = round_unless (is_primary u) (expr_text u) ++ codes "^" ++ decimal k
+expr_text (quotient u v) = round_unless (is_term u) (expr_text u) ++ codes "/" ++ round_unless (is_divisor v (expr_text v)) (expr_text v)
 
 -- two sides with a relation between them
 abbrev pub sides_text : Expr → Rel → Expr → List ℕ

@@ -1,5 +1,7 @@
 pub mod WholeLaws
 pub mod OrderLaws
 pub mod ValueLaws
-pub mod VerdictLaws
+pub mod FractionLaws
+pub mod AnswerLaws
+pub mod SymbolLaws
 pub mod SlowLemmas

@@ -1,9 +1,9 @@
 -- Sums, differences, products and opposites of fractions: they respect sameness, and 0 and 1 are neutral.
-use Rattle.std.proofs.Common.{◌≡◌, ℕ, zero, suc, ◌*◌, ℤ, pos, ◌+ℤ◌, ◌*ℤ◌, neg_ℤ, refl, sym, ap, ap₂, ◌∙◌, subst, arith}
+use Rattle.std.proofs.Common.{◌≡◌, ℕ, zero, suc, ◌+◌, ◌*◌, ℤ, pos, negsuc, ◌+ℤ◌, ◌*ℤ◌, neg_ℤ, refl, sym, ap, ap₂, ◌∙◌, subst, arith}
 use Rattle.std.proofs.lemmas.Int.{ints}
 use Rattle.std.proofs.Math.IntN.{+ℤ_idl, +ℤ_comm, *ℤ_comm, neg_ℤ-+ℤ}
 use Rattle.std.proofs.Math.Nat.{mul_comm}
-use Rattle.theory_meaning.specs.Fraction.{Fraction, den, cross, whole, IsSame, over_both, sum_of, difference_of, product_of, opposite_of, power_of}
+use Rattle.theory_meaning.specs.Fraction.{Fraction, den, cross, whole, IsSame, over_both, sum_of, difference_of, product_of, opposite_of, power_of, reciprocal_by, reciprocal_of, quotient_of}
 use Rattle.theory_meaning.proofs.WholeLaws.{up-times, down-times, sum-times, neg-times, flattened, times-swap}
 use Rattle.theory_meaning.proofs.OrderLaws.{same_along}
 use borrow.Author.Differences.{same_in}
@@ -128,3 +128,20 @@ opposite-sum q r =
 
 pub opposite-product : (q r : Fraction) → opposite_of (product_of q r) ≡ product_of (opposite_of q) r
 opposite-product q r = ap (λ n. over_both n q r) (sym (neg-times q.num r.num))
+
+-- 1 over equal numbers
+reciprocal_respects : (m n : ℤ) (k l : ℕ) → m *ℤ pos (l + 1) ≡ n *ℤ pos (k + 1) → IsSame (reciprocal_by m k) (reciprocal_by n l)
+reciprocal_respects (pos zero) (pos zero) k l e = refl
+reciprocal_respects (pos zero) (pos (suc n)) k l e = absurd (omega (arith, ints, e))
+reciprocal_respects (pos zero) (negsuc n) k l e = absurd (omega (arith, ints, e))
+reciprocal_respects (pos (suc m)) (pos zero) k l e = absurd (omega (arith, ints, e))
+reciprocal_respects (pos (suc m)) (pos (suc n)) k l e = omega (arith, ints, e)
+reciprocal_respects (pos (suc m)) (negsuc n) k l e = absurd (omega (arith, ints, e))
+reciprocal_respects (negsuc m) (pos zero) k l e = absurd (omega (arith, ints, e))
+reciprocal_respects (negsuc m) (pos (suc n)) k l e = absurd (omega (arith, ints, e))
+reciprocal_respects (negsuc m) (negsuc n) k l e = omega (arith, ints, e)
+
+-- equal divisors give equal quotients
+pub quotient_respects : (q p r s : Fraction) → IsSame q p → IsSame r s → IsSame (quotient_of q r) (quotient_of p s)
+quotient_respects q p r s e f =
+    product_respects q p (reciprocal_of r) (reciprocal_of s) e (reciprocal_respects r.num s.num r.less s.less f)

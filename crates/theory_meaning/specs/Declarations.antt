@@ -3,7 +3,7 @@ use Rattle.std.specs.Prelude.{Bool, false, is_some, ◌==◌, List, [], ◌∷�
 use Rattle.std.specs.Str.{bytes_eq}
 use Rattle.theory_meaning.specs.Point.{Name}
 use Rattle.theory_meaning.specs.Text.{Numbered}
-use Rattle.theory_meaning.specs.Tree.{Expr, number, symbol, sum, difference, opposite, product, power, Claim, Claims, always, never, atom, negation, conjunction, disjunction, implication, equivalence, none, more, Line, model, var, param, function, equation, assume, claim}
+use Rattle.theory_meaning.specs.Tree.{Expr, number, symbol, sum, difference, opposite, product, power, quotient, Claim, Claims, always, never, atom, negation, conjunction, disjunction, implication, equivalence, none, more, Line, model, var, param, function, equation, assume, claim}
 
 -- what a name is declared as; a function with its arguments
 pub data Declared : Type 0 where
@@ -83,6 +83,7 @@ symbols_of_expr (difference u v) = symbols_of_expr u ++ symbols_of_expr v
 symbols_of_expr (opposite u) = symbols_of_expr u
 symbols_of_expr (product u v) = symbols_of_expr u ++ symbols_of_expr v
 symbols_of_expr (power u k) = symbols_of_expr u
+symbols_of_expr (quotient u v) = symbols_of_expr u ++ symbols_of_expr v
 
 -- the symbols that stand in a claim, and in claims
 abbrev mutual

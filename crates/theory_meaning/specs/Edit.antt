@@ -81,3 +81,23 @@ numbered_from n (line ∷ lines) = record { at = n; line = line } ∷ numbered_f
 -- the lines alone
 abbrev pub lines_alone : List Numbered → List Line
 lines_alone = map (λ n. n.line)
+
+-- the names of the lines that are put are identifiers
+abbrev pub PutsIdentifiers : List Op → Type 0
+PutsIdentifiers [] = Unit {0}
+PutsIdentifiers (put_line line ∷ ops) = HasIdentifiers line × PutsIdentifiers ops
+PutsIdentifiers (drop_key key ∷ ops) = PutsIdentifiers ops
+
+-- these lines, or the fault that they have
+abbrev pub unless_fault : Option ModelFault → List Numbered → Result (List Numbered) EditFault
+unless_fault None lines = Ok lines
+unless_fault (Some fault) lines = Err (after fault)
+
+-- the model of these lines, numbered by their place, or why there is none
+abbrev pub model_of : Result (List Line) EditFault → Result (List Numbered) EditFault
+model_of (Ok lines) = unless_fault (model_fault (numbered_from 1 lines)) (numbered_from 1 lines)
+model_of (Err fault) = Err fault
+
+-- the lines of a model after the operations in order, numbered by their place, or why the edit is refused
+abbrev pub edited : List Op → List Numbered → Result (List Numbered) EditFault
+edited ops lines = model_of (changed_lines 1 ops (lines_alone lines))

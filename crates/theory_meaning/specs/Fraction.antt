@@ -1,6 +1,6 @@
 -- Fractions of any size: a whole number over a positive whole number, compared by cross products.
 -- Source: textbook.
-use Rattle.std.specs.Prelude.{◌≡◌, ℕ, zero, suc, ◌+◌, ◌*◌, Bool, ℤ, pos, ◌+ℤ◌, ◌*ℤ◌, neg_ℤ, ◌<ℤ◌, int_lt}
+use Rattle.std.specs.Prelude.{◌≡◌, ℕ, zero, suc, ◌+◌, ◌*◌, Bool, ℤ, pos, ◌+ℤ◌, ◌*ℤ◌, negsuc, neg_ℤ, ◌<ℤ◌, int_lt}
 use Rattle.std.specs.Ordering.{int_eq}
 use Rattle.theory_meaning.specs.declared.words.Sign.{Sign}
 use Rattle.theory_meaning.specs.declared.words.Sign.TheVariants.{Minus, Zero, Plus}
@@ -44,6 +44,12 @@ HasSign q Minus = q.num <ℤ pos 0
 HasSign q Zero = q.num ≡ pos 0
 HasSign q Plus = pos 0 <ℤ q.num
 
+-- the sign of the opposite number
+abbrev pub opposite_sign : Sign → Sign
+opposite_sign Minus = Plus
+opposite_sign Zero = Zero
+opposite_sign Plus = Minus
+
 -- the number with its sign turned
 abbrev pub opposite_of : Fraction → Fraction
 opposite_of q = record { num = neg_ℤ q.num; less = q.less }
@@ -68,3 +74,17 @@ product_of q r = over_both (q.num *ℤ r.num) q r
 abbrev pub power_of : Fraction → ℕ → Fraction
 power_of q zero = whole (pos 1)
 power_of q (suc k) = product_of (power_of q k) q
+
+-- 1 over a numerator and a denominator; 0 where the numerator is 0
+abbrev pub reciprocal_by : ℤ → ℕ → Fraction
+reciprocal_by (pos zero) k = whole (pos 0)
+reciprocal_by (pos (suc n)) k = record { num = pos (k + 1); less = n }
+reciprocal_by (negsuc n) k = record { num = negsuc k; less = n }
+
+-- 1 over the fraction; 0 for 0
+abbrev pub reciprocal_of : Fraction → Fraction
+reciprocal_of q = reciprocal_by q.num q.less
+
+-- q over r; 0 where r is 0
+abbrev pub quotient_of : Fraction → Fraction → Fraction
+quotient_of q r = product_of q (reciprocal_of r)

@@ -20,18 +20,20 @@ pub data Half : Type 0 where
   absent : Half
   left : Cause → Half
 
--- some point meets the claims
-abbrev pub IsMet : List Claim → Type 0
-IsMet cs = (p : Point) × Meets cs p
+-- the half is true of the points asked for; one that is left open says nothing of them
+abbrev pub IsRightHalfOf : (Point → Type 0) → Half → Type 0
+IsRightHalfOf Asked (found p) = Asked p
+IsRightHalfOf Asked found_wide = (p : Point) × Asked p
+IsRightHalfOf Asked absent = (p : Point) → ¬ Asked p
+IsRightHalfOf Asked (left cause) = Unit {0}
 
--- the half is true of all points; one that is left open says nothing of them
+-- the half is true of the points that meet the claims
 abbrev pub IsRightHalf : List Claim → Half → Type 0
-IsRightHalf cs (found p) = Meets cs p
-IsRightHalf cs found_wide = IsMet cs
-IsRightHalf cs absent = (p : Point) → ¬ Meets cs p
-IsRightHalf cs (left cause) = Unit {0}
+IsRightHalf cs = IsRightHalfOf (Meets cs)
 
--- the half isn't left open
-abbrev pub IsClosedHalf : Half → Type 0
-IsClosedHalf (left cause) = ⊥
-IsClosedHalf _ = Unit {0}
+-- the half is left open
+abbrev pub IsLeft : Half → Type 0
+IsLeft (found p) = ⊥
+IsLeft found_wide = ⊥
+IsLeft absent = ⊥
+IsLeft (left cause) = Unit {0}

@@ -1,11 +1,21 @@
--- The two questions about a claim under assumptions, and what right answers to them say of the claim.
+-- The assumptions and claims of a model, and the two questions that are asked of a claim.
 -- Source: TheoryGuru (Mulligan, Davenport, England, ICMS 2018).
 use Rattle.std.specs.Prelude.{List, [], ◌∷◌, ◌++◌, IsTrue}
-use Rattle.theory_meaning.specs.Point.{Point}
-use Rattle.theory_meaning.specs.Tree.{Claim, negation}
-use Rattle.theory_meaning.specs.Truth.{truth_of, Meets}
-use Rattle.theory_meaning.specs.Half.{Half, IsRightHalf}
-use Rattle.theory_meaning.specs.Verdict.{verdict_of_halves, IsRightVerdict}
+use Rattle.theory_meaning.specs.Point.{Name, Point}
+use Rattle.theory_meaning.specs.Tree.{Claim, negation, Line, assume, claim}
+use Rattle.theory_meaning.specs.Truth.{truth_of}
+
+-- the assumptions of lines, in their order
+abbrev pub assumptions_of : List Line → List Claim
+assumptions_of [] = []
+assumptions_of (assume label c ∷ lines) = c ∷ assumptions_of lines
+assumptions_of (_ ∷ lines) = assumptions_of lines
+
+-- the claims of lines with their labels, in their order
+abbrev pub claims_of : List Line → List (Name × Claim)
+claims_of [] = []
+claims_of (claim label shift c ∷ lines) = (label, c) ∷ claims_of lines
+claims_of (_ ∷ lines) = claims_of lines
 
 -- what an example meets: the assumptions and the claim
 abbrev pub example_sentence : List Claim → Claim → List Claim
@@ -18,10 +28,3 @@ counter_sentence assumed c = assumed ++ negation c ∷ []
 -- the claim is true at the point
 abbrev pub IsTrueAt : Claim → Point → Type 0
 IsTrueAt c p = IsTrue (truth_of c p)
-
--- where both halves are right, the verdict of the table is right
-abbrev pub RightHalvesGiveTheRightVerdict : Type 0
-RightHalvesGiveTheRightVerdict =
-    (assumed : List Claim) (c : Claim) (example counter : Half)
-    → IsRightHalf (example_sentence assumed c) example → IsRightHalf (counter_sentence assumed c) counter
-    → IsRightVerdict (Meets assumed) (IsTrueAt c) (verdict_of_halves example counter)

@@ -13,6 +13,7 @@ pub data Expr : Type 0 where
   opposite : Expr → Expr
   product : Expr → Expr → Expr
   power : Expr → ℕ → Expr
+  quotient : Expr → Expr → Expr
 
 -- a claim, with lists of claims as a type beside it
 mutual
@@ -32,12 +33,7 @@ mutual
     none : Claims
     more : Claim → Claims → Claims
 
--- the same claims as a list
-abbrev pub claims_list : Claims → List Claim
-claims_list none = []
-claims_list (more c cs) = c ∷ claims_list cs
-
--- and back
+-- the claims of a list
 abbrev pub claims_from : List Claim → Claims
 claims_from [] = none
 claims_from (c ∷ cs) = more c (claims_from cs)

@@ -1,12 +1,13 @@
 -- The value of an expression and the truth of a claim at a point, and points that meet a list of claims.
--- Source: textbook.
-use Rattle.std.specs.Prelude.{Bool, true, false, not, ◌&&◌, ◌||◌, List, [], ◌∷◌, IsTrue}
+-- Source: textbook; that divisors are never 0 is this project's own.
+use Rattle.std.specs.Prelude.{pos, Bool, true, false, not, ◌&&◌, ◌||◌, List, [], ◌∷◌, IsTrue}
 use Rattle.std.specs.Bool.{beq}
 use Rattle.theory_meaning.specs.declared.words.Rel.{Rel}
 use Rattle.theory_meaning.specs.declared.words.Rel.TheVariants.{Eq, Ne, Lt, Le, Gt, Ge}
-use Rattle.theory_meaning.specs.Fraction.{Fraction, same, below, sum_of, difference_of, opposite_of, product_of, power_of}
+use Rattle.theory_meaning.specs.Divisors.{divisors_of_claim}
+use Rattle.theory_meaning.specs.Fraction.{Fraction, whole, same, below, sum_of, difference_of, opposite_of, product_of, power_of, quotient_of}
 use Rattle.theory_meaning.specs.Point.{Point, value_at}
-use Rattle.theory_meaning.specs.Tree.{Expr, number, symbol, sum, difference, opposite, product, power, Claim, Claims, always, never, atom, negation, conjunction, disjunction, implication, equivalence, none, more}
+use Rattle.theory_meaning.specs.Tree.{Expr, number, symbol, sum, difference, opposite, product, power, quotient, Claim, Claims, always, never, atom, negation, conjunction, disjunction, implication, equivalence, none, more}
 
 -- the relation holds between two values
 abbrev pub holds : Rel → Fraction → Fraction → Bool
@@ -26,6 +27,7 @@ value_of (difference u v) p = difference_of (value_of u p) (value_of v p)
 value_of (opposite u) p = opposite_of (value_of u p)
 value_of (product u v) p = product_of (value_of u p) (value_of v p)
 value_of (power u k) p = power_of (value_of u p) k
+value_of (quotient u v) p = quotient_of (value_of u p) (value_of v p)
 
 -- the truth of a claim; of a list of claims that all are true, or that some is
 abbrev mutual
@@ -47,10 +49,19 @@ abbrev mutual
   some_of none p = false
   some_of (more c cs) p = truth_of c p || some_of cs p
 
--- the point makes every claim of the list true
+-- none of the expressions has the value 0
+abbrev pub are_nonzero : List Expr → Point → Bool
+are_nonzero [] p = true
+are_nonzero (v ∷ vs) p = not (same (value_of v p) (whole (pos 0))) && are_nonzero vs p
+
+-- the claim is true, and no divisor in it is 0
+abbrev pub stands : Claim → Point → Bool
+stands c p = truth_of c p && are_nonzero (divisors_of_claim c) p
+
+-- the point meets the list: every claim of it is true, and no divisor in one is 0
 abbrev pub meets : List Claim → Point → Bool
 meets [] p = true
-meets (c ∷ cs) p = truth_of c p && meets cs p
+meets (c ∷ cs) p = stands c p && meets cs p
 
 -- the same as a fact
 abbrev pub Meets : List Claim → Point → Type 0

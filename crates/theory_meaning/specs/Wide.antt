@@ -2,7 +2,7 @@
 use Rattle.std.specs.Prelude.{◌⊎◌}
 use Rattle.theory_meaning.specs.Limits.{IsWide}
 use Rattle.theory_meaning.specs.Point.{Point, value_at}
-use Rattle.theory_meaning.specs.Tree.{Expr, number, symbol, sum, difference, opposite, product, power, Claim, Claims, always, never, atom, negation, conjunction, disjunction, implication, equivalence, none, more}
+use Rattle.theory_meaning.specs.Tree.{Expr, number, symbol, sum, difference, opposite, product, power, quotient, Claim, Claims, always, never, atom, negation, conjunction, disjunction, implication, equivalence, none, more}
 use Rattle.theory_meaning.specs.Truth.{value_of}
 
 -- the value of the expression or of a part of it passes the bound
@@ -14,6 +14,7 @@ HasWideValue (difference u v) p = HasWideValue u p ⊎ (HasWideValue v p ⊎ IsW
 HasWideValue (opposite u) p = HasWideValue u p ⊎ IsWide (value_of (opposite u) p)
 HasWideValue (product u v) p = HasWideValue u p ⊎ (HasWideValue v p ⊎ IsWide (value_of (product u v) p))
 HasWideValue (power u k) p = HasWideValue u p ⊎ IsWide (value_of (power u k) p)
+HasWideValue (quotient u v) p = HasWideValue u p ⊎ (HasWideValue v p ⊎ IsWide (value_of (quotient u v) p))
 
 -- some expression in the claim has such a value; of a list, one in some claim of it
 abbrev mutual

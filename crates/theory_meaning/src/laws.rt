@@ -1,15 +1,13 @@
-ghost use Rattle.std.specs.Prelude.{◌≡◌, true, false, pos, codes};
-ghost use Rattle.theory_meaning.specs.Fraction.{whole};
-ghost use Rattle.theory_meaning.specs.Point.{Point};
-ghost use Rattle.theory_meaning.specs.Question.{example_sentence, counter_sentence, RightHalvesGiveTheRightVerdict};
-ghost use Rattle.theory_meaning.specs.Tree.{symbol, power, always, never, conjunction, disjunction, implication, equivalence, none};
-ghost use Rattle.theory_meaning.specs.Truth.{value_of, truth_of, meets};
-ghost use Rattle.theory_meaning.specs.Worked.{one_twenty_seventh, the_variable, at_zero, at_one_third, at_one_half, at_one, between_0_and_1, is_one_half};
-
-/// Where both halves are right, the verdict of the table is right.
-pub fn right_halves_give_the_right_verdict()
-    ensures { RightHalvesGiveTheRightVerdict }
-{}
+ghost use Rattle.std.specs.Prelude.{◌≡◌, true, false, pos, [], ◌∷◌, codes, Contains};
+ghost use Rattle.theory_meaning.specs.Declarations.{symbols_of_claim};
+ghost use Rattle.theory_meaning.specs.Divisors.{divisors_of_claim};
+ghost use Rattle.theory_meaning.specs.Fraction.{whole, IsSame};
+ghost use Rattle.theory_meaning.specs.Point.{Name, Point, value_at};
+ghost use Rattle.theory_meaning.specs.Question.{example_sentence, counter_sentence};
+ghost use Rattle.theory_meaning.specs.Slope.{slope_of};
+ghost use Rattle.theory_meaning.specs.Tree.{Expr, Claim, symbol, power, quotient, always, never, conjunction, disjunction, implication, equivalence, none};
+ghost use Rattle.theory_meaning.specs.Truth.{value_of, truth_of, meets, Meets};
+ghost use Rattle.theory_meaning.specs.Worked.{one_half, one_twenty_seventh, the_variable, at_zero, at_one_third, at_one_half, at_one, between_0_and_1, is_one_half, tax_lines, revenue, per_unit, at_a_tax, eight, minus_one};
 
 /// At one half the assumptions of the worked example and its claim are true.
 pub fn one_half_is_an_example()
@@ -60,4 +58,30 @@ pub fn equivalence_is_agreement()
 pub fn empty_lists_of_claims()
     ensures conjunction { (p : Point) → truth_of (conjunction none) p ≡ true }
     ensures disjunction { (p : Point) → truth_of (disjunction none) p ≡ false }
+{}
+
+/// The value of a quotient is the fraction, and 0 where the divisor is 0.
+pub fn quotients_are_fractions()
+    ensures third { IsSame (value_of (quotient the_variable the_variable) at_one_third)
+        (whole (pos 1)) }
+    ensures zero { IsSame (value_of (quotient the_variable the_variable) at_zero) (whole (pos 0)) }
+{}
+
+/// A point at which a divisor of a claim is 0 meets no list with that claim.
+pub fn nothing_is_met_over_zero()
+    ensures { (c : Claim) (v : Expr) (p : Point) → Contains (divisors_of_claim c) v →
+        IsSame (value_of v p) (whole (pos 0)) → ¬ Meets (c ∷ []) p }
+{}
+
+/// Along t, p^2*t has the slope 2*p*d.p*t + p^2, and p/t has (d.p*t - p)/(t*t).
+pub fn a_slope_follows_the_rules()
+    ensures power { IsSame (slope_of tax_lines (codes "t") revenue at_a_tax) eight }
+    ensures quotient { IsSame (slope_of tax_lines (codes "t") per_unit at_a_tax) minus_one }
+{}
+
+/// Points that give the same values to the symbols of a claim give it the same truth.
+pub fn truth_reads_symbols_alone()
+    ensures { (c : Claim) (p q : Point) →
+        ((x : Name) → Contains (symbols_of_claim c) x → IsSame (value_at p x) (value_at q x)) →
+        truth_of c p ≡ truth_of c q }
 {}

@@ -32,6 +32,19 @@ pub enum Verdict {
     Undecided,
 }
 
+/// An order in which symbols are eliminated.
+#[derive(Clone, Copy, Debug, PartialEq, Eq)]
+pub enum Kind {
+    /// As the symbols are listed.
+    Listed,
+    /// The symbol of the fewest atoms first.
+    Rare,
+    /// A symbol with a constant coefficient in an equation first.
+    Unit,
+    /// Signs that the facts allow are used first.
+    Signed,
+}
+
 /// Why a list of lines is no model, in the order in which the kinds are looked for.
 #[derive(Clone, Copy, Debug, PartialEq, Eq)]
 pub enum ModelKind {

@@ -1,0 +1,10 @@
+pub mod FormulaLaws
+pub mod ConditionLaws
+pub mod WrittenLaws
+pub mod QuotientValues
+pub mod Undivided
+pub mod LoweredLaws
+pub mod FreeTerms
+pub mod SingleLowered
+pub mod LoweredAtoms
+pub mod ReadSymbols

@@ -1,0 +1,5 @@
+use Rattle.theory_formula.proofs.SingleLowered.{condition_single}
+use Rattle.theory_formula.proofs.laws.conditions_are_single.Goals as goal
+
+pub returns : goal.returns
+returns c = condition_single

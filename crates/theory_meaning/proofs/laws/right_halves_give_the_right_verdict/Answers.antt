@@ -1,5 +1,0 @@
-use Rattle.theory_meaning.proofs.VerdictLaws as law
-use Rattle.theory_meaning.proofs.laws.right_halves_give_the_right_verdict.Goals as goal
-
-pub returns : goal.returns
-returns c = law.right_halves_give_the_right_verdict

@@ -1,5 +1,0 @@
-use Rattle.theory_method.proofs.ConditionLaws.{condition_truth}
-use Rattle.theory_method.proofs.laws_formula.conditions_have_the_truth_of_the_sign.Goals as goal
-
-pub returns : goal.returns
-returns c = condition_truth

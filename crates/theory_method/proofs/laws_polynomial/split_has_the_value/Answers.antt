@@ -1,5 +1,0 @@
-use Rattle.theory_method.proofs.SignLaws.{split_value}
-use Rattle.theory_method.proofs.laws_polynomial.split_has_the_value.Goals as goal
-
-pub returns : goal.returns
-returns c x ts a b p h = (split_value x ts a b p h).is

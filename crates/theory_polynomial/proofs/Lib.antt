@@ -1,0 +1,9 @@
+pub mod CoefficientLaws
+pub mod FixedOrder
+pub mod PolynomialValues
+pub mod PrimitiveLaws
+pub mod RestrictionLaws
+pub mod FreeLaws
+pub mod SignLaws
+pub mod TurnedLaws
+pub mod SingleForms

@@ -1,0 +1,4 @@
+pub mod Terms
+pub mod Polynomial
+pub mod PolynomialValue
+pub mod RationalPolynomial
