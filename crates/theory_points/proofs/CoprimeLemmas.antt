@@ -1,8 +1,7 @@
 -- Equal quotients of numbers without a common divisor. Source: textbook, Euclid's lemma.
 use Rattle.std.proofs.Common.{◌≡◌, ℕ, zero, suc, ◌+◌, ◌-◌, ◌*◌, ◌/◌, ◌<◌, ◌≤◌, refl, subst, sym, arith, ⊎_elim, mul-one}
 use Prim.Native.Nat.{◌∣◌}
-use Rattle.std.proofs.Math.Nat.{dvd_refl, dvd-zero, dvd-add, pos_of_dvd_of_pos}
-use Rattle.std.proofs.Math.Nat.{mul-div_cancel', mul-dvd-mul_left, le_of_mul-le-mul_left, dvd_of_mul-dvd-mul_left, eq-one_of_dvd-one}
+use Rattle.std.proofs.Math.Nat.{dvd_refl, dvd-zero, dvd-add, pos_of_dvd_of_pos, mul-div_cancel', mul-dvd-mul_left, le_of_mul-le-mul_left, dvd_of_mul-dvd-mul_left, eq-one_of_dvd-one}
 use Rattle.std.proofs.lemmas.Bool.{cases_lt}
 use Rattle.std.specs.Int.{IsGcd}
 use Rattle.theory_points.specs.Parts.{AreCoprime}

@@ -1,6 +1,5 @@
 -- Quotients of two whole numbers, by their lowest terms. Source: textbook.
-use Rattle.std.proofs.Common.{◌≡◌, ◌≢◌, ℕ, zero, suc, ◌+◌, ◌*◌, ◌/◌, ◌<◌, ◌≤◌, ◌⊎◌, int_lt, ℤ, pos, ◌*ℤ◌, unsigned_abs}
-use Rattle.std.proofs.Common.{sym, ap, subst, subst₂, ⊎_elim, le_antisymm, le_of_mul-le-mul_right, mul_comm, Option, Some, None, MatchOption, ◌∙◌, arith}
+use Rattle.std.proofs.Common.{◌≡◌, ◌≢◌, ℕ, zero, suc, ◌+◌, ◌*◌, ◌/◌, ◌<◌, ◌≤◌, ◌⊎◌, int_lt, ℤ, pos, ◌*ℤ◌, unsigned_abs, sym, ap, subst, subst₂, ⊎_elim, le_antisymm, le_of_mul-le-mul_right, mul_comm, Option, Some, None, MatchOption, ◌∙◌, arith}
 use Rattle.std.proofs.lemmas.Int.{ints}
 use Rattle.std.proofs.Math.Nat.{div-mul_cancel}
 use Rattle.std.specs.Int.{IsGcd}

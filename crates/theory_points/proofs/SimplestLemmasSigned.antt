@@ -4,7 +4,7 @@ use Rattle.std.proofs.Math.Nat.{eq-one_of_dvd-one}
 use Rattle.std.proofs.lemmas.Int.{ints}
 use Rattle.theory_meaning.specs.Fraction.{Fraction, den, whole}
 use Rattle.theory_meaning.specs.Limits.{IsReduced}
-use Rattle.theory_method.specs.Between.{IsBetween, IsSimplestBetween}
+use Rattle.theory_meaning.specs.Between.{IsBetween, IsSimplestBetween}
 use Rattle.theory_points.specs.Parts.{parted, less_and_one}
 use Rattle.theory_points.specs.Simplest.{HasParts, IsLeastBetween, IsLeastOfMagnitudes}
 use Rattle.theory_points.proofs.SimplestLemmas.{bottom_is_positive, least_is_reduced}

@@ -5,7 +5,7 @@ use Rattle.std.specs.Int.{int_div_euclid}
 use borrow.Author.Differences.{up, down, le_out, lt_out}
 use Rattle.theory_meaning.specs.Fraction.{Fraction, den}
 use Rattle.theory_points.specs.Parts.{IsFloor}
-use Rattle.theory_method.specs.Between.{IsWholeBelow, IsWholeAbove}
+use Rattle.theory_meaning.specs.Between.{IsWholeBelow, IsWholeAbove}
 
 -- a division by a number without a sign rounds down
 floor_by_parts : (a : ℤ) (d : ℕ) → 0 < d → IsFloor a (pos d) (int_div_euclid a (pos d))

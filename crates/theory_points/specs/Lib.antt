@@ -1,8 +1,8 @@
 pub use Rattle.theory_meaning.specs.Fraction
 pub use Rattle.theory_meaning.specs.Limits
 pub use Rattle.theory_meaning.specs.Point
-pub use Rattle.theory_method.specs.Between
+pub use Rattle.theory_meaning.specs.Between
 pub mod Parts
 pub mod Changes
 pub mod Simplest
-pub mod Told
+pub mod Message

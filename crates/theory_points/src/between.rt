@@ -1,7 +1,7 @@
 ghost use Rattle.std.specs.Prelude.{◌≡◌, ℕ, ◌+◌, ◌*◌, ◌<◌, ◌≤◌, unsigned_abs};
 ghost use Rattle.theory_meaning.specs.Fraction.{den, IsBelow};
 ghost use Rattle.theory_meaning.specs.Limits.{IsReduced, bound};
-ghost use Rattle.theory_method.specs.Between.{IsSimplestBetween};
+ghost use Rattle.theory_meaning.specs.Between.{IsSimplestBetween};
 ghost use Rattle.theory_points.specs.Parts.{IsKept};
 ghost use Rattle.theory_points.specs.Simplest.{HasParts, IsWithinTwice, IsLeastBetween, IsLeastOfMagnitudes};
 

@@ -5,14 +5,10 @@
 #![tactic(auto)]
 
 mod between;
-#[cfg(test)]
-mod between_tests;
 mod bytes;
 mod frac;
 mod limit;
 mod point;
-#[cfg(test)]
-mod tests;
 mod whole;
 
 pub use between::simplest_between;

@@ -11,9 +11,9 @@ pub struct NoMemory;
 
 impl fmt::Display for NoMemory {
     ghost use Rattle.std.specs.Prelude.{Some};
-    ghost use Rattle.theory_points.specs.Told.{told_of_memory};
+    ghost use Rattle.theory_points.specs.Message.{memory_message};
 
-    ghost output = { λ _. Some told_of_memory };
+    ghost output = { λ _. Some memory_message };
 
     fn fmt<W: fmt::Write>(&self, f: &mut fmt::Formatter<W>) -> fmt::Result {
         f.write_str("no memory")
@@ -40,9 +40,9 @@ pub struct Wide;
 
 impl fmt::Display for Wide {
     ghost use Rattle.std.specs.Prelude.{Some};
-    ghost use Rattle.theory_points.specs.Told.{told_of_limit};
+    ghost use Rattle.theory_points.specs.Message.{limit_message};
 
-    ghost output = { λ _. Some told_of_limit };
+    ghost output = { λ _. Some limit_message };
 
     fn fmt<W: fmt::Write>(&self, f: &mut fmt::Formatter<W>) -> fmt::Result {
         f.write_str("a result passes the limit")
@@ -62,9 +62,9 @@ pub enum Limit {
 
 impl fmt::Display for Limit {
     ghost use Rattle.std.specs.Prelude.{Some};
-    ghost use Rattle.theory_points.specs.Told.{told_by};
+    ghost use Rattle.theory_points.specs.Message.{message_of};
 
-    ghost output = { λ limit. Some (told_by limit) };
+    ghost output = { λ limit. Some (message_of limit) };
 
     fn fmt<W: fmt::Write>(&self, f: &mut fmt::Formatter<W>) -> fmt::Result {
         f.write_str(match self {

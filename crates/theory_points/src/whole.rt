@@ -1,5 +1,5 @@
 ghost use Rattle.std.specs.Prelude.{ℕ, ◌+◌, ◌^◌, ◌≤◌, pos, ◌<ℤ◌, unsigned_abs};
-ghost use Rattle.theory_method.specs.Between.{IsWholeBelow, IsWholeAbove};
+ghost use Rattle.theory_meaning.specs.Between.{IsWholeBelow, IsWholeAbove};
 ghost use Rattle.theory_points.specs.Parts.{IsFloor};
 
 use crate::frac::Frac;

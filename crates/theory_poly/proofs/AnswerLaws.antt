@@ -3,11 +3,11 @@ use Rattle.std.proofs.Common.{◌≡◌, ℕ, ◌<◌, List, sym, ◌∙◌, sub
 use Rattle.theory_meaning.specs.Limits.{bound}
 use Rattle.theory_points.specs.declared.limit.Limit.{Limit}
 use Rattle.theory_points.specs.declared.limit.Limit.TheVariants.{Wide, Memory}
-use Rattle.theory_method.specs.Polynomial.{Monomial, AreSame, IsPolynomial, IsPolynomialOf, PassesLimit, IsBeyond, IsBeyondDivided, IsPrimitiveOf, greatest_of}
-use Rattle.theory_method.specs.PolynomialValue.{HaveSameSign}
-use Rattle.theory_method.proofs.PrimitiveLaws.{primitive_of_same, primitive_unique, primitive_has_same_sign}
-use Rattle.theory_method.proofs.CoefficientLaws.{same_itself, same_trans, same_turned}
-use Rattle.theory_method.proofs.FixedOrder.{polynomial_unique}
+use Rattle.theory_polynomial.specs.Polynomial.{Monomial, AreSame, IsPolynomial, IsPolynomialOf, PassesLimit, IsBeyond, IsBeyondDivided, IsPrimitiveOf, greatest_of}
+use Rattle.theory_polynomial.specs.PolynomialValue.{HaveSameSign}
+use Rattle.theory_polynomial.proofs.PrimitiveLaws.{primitive_of_same, primitive_unique, primitive_has_same_sign}
+use Rattle.theory_polynomial.proofs.CoefficientLaws.{same_itself, same_trans, same_turned}
+use Rattle.theory_polynomial.proofs.FixedOrder.{polynomial_unique}
 use Rattle.theory_poly.specs.Answers.{WideWhere}
 use Rattle.theory_poly.specs.Kept.{IsPrimitiveForm}
 use Rattle.theory_poly.proofs.HeightLaws.{height_at, exponent_at}

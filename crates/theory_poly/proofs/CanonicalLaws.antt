@@ -5,10 +5,10 @@ use Rattle.std.specs.Prelude.{if◌then◌else◌, int_lt}
 use Rattle.std.proofs.lemmas.Int.{ints}
 use Rattle.std.proofs.lemmas.List.{length-set}
 use Rattle.theory_meaning.proofs.WholeLaws.{neg-times, lt_from_test, le_from_test}
-use Rattle.theory_method.specs.Polynomial.{Monomial, monomial, coefficient_at, AreSame, IsPolynomial, IsContent, IsCanonicalOf, HasPositiveFirst, scaled, symbol_of, greatest_of}
-use Rattle.theory_method.specs.PolynomialValue.{HaveSameSign}
-use Rattle.theory_method.proofs.CoefficientLaws.{coefficient_at-scaled, same_itself, scaled_once}
-use Rattle.theory_method.proofs.PrimitiveLaws.{content_is_one, content_of_turned, content_of_same, primitive_has_same_sign}
+use Rattle.theory_polynomial.specs.Polynomial.{Monomial, monomial, coefficient_at, AreSame, IsPolynomial, IsContent, IsCanonicalOf, HasPositiveFirst, scaled, symbol_of, greatest_of}
+use Rattle.theory_polynomial.specs.PolynomialValue.{HaveSameSign}
+use Rattle.theory_polynomial.proofs.CoefficientLaws.{coefficient_at-scaled, same_itself, scaled_once}
+use Rattle.theory_polynomial.proofs.PrimitiveLaws.{content_is_one, content_of_turned, content_of_same, primitive_has_same_sign}
 use Rattle.theory_poly.specs.Kept.{IsKept, IsPrimitiveForm, IsSignedForm}
 use Rattle.theory_poly.proofs.HeightLaws.{nothing}
 use Rattle.theory_poly.proofs.ProductLaws.{kept_turned}

@@ -9,9 +9,9 @@ use Rattle.std.proofs.lemmas.Bool.{cases_Bool}
 use Rattle.std.proofs.lemmas.Int.{ints, unsigned_abs-mul}
 use Rattle.std.proofs.lemmas.List.{take_more, take_more_set, take_all, drop_more, drop_all, drop-drop, drop-set-lt, append-nil, map-append, length-map}
 use Rattle.std.proofs.lemmas.Slice.Eq.{bytes_eq-Decides}
-use Rattle.theory_method.specs.Polynomial.{Monomial, monomial, coefficient_at, AreSame, PrecedesFirst, IsPolynomial, IsWithinLimits, IsContent, IsPrimitiveOf, DividesAll, scaled, height_of, greatest_of, greatest_exponent_of}
-use Rattle.theory_method.proofs.CoefficientLaws.{same_itself}
-use Rattle.theory_method.proofs.FixedOrder.{coefficient_before, coefficient_first, none_of_zero}
+use Rattle.theory_polynomial.specs.Polynomial.{Monomial, monomial, coefficient_at, AreSame, PrecedesFirst, IsPolynomial, IsWithinLimits, IsContent, IsPrimitiveOf, DividesAll, scaled, height_of, greatest_of, greatest_exponent_of}
+use Rattle.theory_polynomial.proofs.CoefficientLaws.{same_itself}
+use Rattle.theory_polynomial.proofs.FixedOrder.{coefficient_before, coefficient_first, none_of_zero}
 use Rattle.theory_poly.specs.Kept.{IsKept, EachDivided, IsGreatestDivisor, IsPrimitiveForm}
 
 -- no coefficient is 0

@@ -1,7 +1,7 @@
 -- The greatest absolute value of the coefficients, and the greatest exponent.
 use Rattle.std.proofs.Common.{◌≡◌, ℕ, zero, suc, ◌+◌, ◌<◌, ◌≤◌, pos, List, [], ◌∷◌, ◌++◌, length, get_or, take, max, ap, ◌∙◌, arith, unsigned_abs}
 use Rattle.std.proofs.lemmas.List.{take_more}
-use Rattle.theory_method.specs.Polynomial.{Monomial, monomial, height_of, greatest_of, greatest_exponent_of}
+use Rattle.theory_polynomial.specs.Polynomial.{Monomial, monomial, height_of, greatest_of, greatest_exponent_of}
 
 -- the default of a read
 abbrev pub nothing : Monomial

@@ -1,4 +1,5 @@
 pub mod HeightLaws
+pub mod HashLaws
 pub mod MergeLaws
 pub mod ScaleLaws
 pub mod AnswerLaws

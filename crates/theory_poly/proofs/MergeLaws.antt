@@ -9,9 +9,9 @@ use Rattle.std.specs.Str.{bytes_eq}
 use Rattle.std.proofs.lemmas.Cmp.{nat_list_cmp_total}
 use Rattle.std.proofs.lemmas.List.{drop_more, drop_all, append-nil}
 use Rattle.std.proofs.lemmas.Int.{ints}
-use Rattle.theory_method.specs.Polynomial.{Monomial, monomial, coefficient_at, Precedes, PrecedesFirst, IsPolynomial, sum_of, height_of}
-use Rattle.theory_method.proofs.CoefficientLaws.{plus_assoc, coefficient_at-append}
-use Rattle.theory_method.proofs.FixedOrder.{precedes_rest, tied_are_equal}
+use Rattle.theory_polynomial.specs.Polynomial.{Monomial, monomial, coefficient_at, Precedes, PrecedesFirst, IsPolynomial, sum_of, height_of}
+use Rattle.theory_polynomial.proofs.CoefficientLaws.{plus_assoc, coefficient_at-append}
+use Rattle.theory_polynomial.proofs.FixedOrder.{precedes_rest, tied_are_equal}
 use Rattle.theory_poly.specs.Kept.{IsGathered}
 
 -- the sum of two terms with equal exponents before the rest, left out where it is 0

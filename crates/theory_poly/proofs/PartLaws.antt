@@ -7,10 +7,10 @@ use Rattle.std.specs.Str.{bytes_eq}
 use Rattle.std.proofs.lemmas.Bool.{cases_Bool}
 use Rattle.std.proofs.lemmas.Int.{ints}
 use Rattle.std.proofs.lemmas.List.{length-set}
-use Rattle.theory_method.specs.Polynomial.{Monomial, monomial, AreSame, IsTerm, PrecedesFirst, IsPolynomial, IsSplit, IsLinearIn, IsFreeOf, exponent_of, degree_in, greatest_of, greatest_exponent_of, height_of, product_of, powers_of_product, symbol_of, no_powers, sum_of}
-use Rattle.theory_method.specs.PolynomialValue.{part_of}
-use Rattle.theory_method.proofs.FixedOrder.{precedes_rest}
-use Rattle.theory_method.proofs.CoefficientLaws.{coefficient_at-append}
+use Rattle.theory_polynomial.specs.Polynomial.{Monomial, monomial, AreSame, IsTerm, PrecedesFirst, IsPolynomial, IsSplit, IsLinearIn, IsFreeOf, exponent_of, degree_in, greatest_of, greatest_exponent_of, height_of, product_of, powers_of_product, symbol_of, no_powers, sum_of}
+use Rattle.theory_polynomial.specs.PolynomialValue.{part_of}
+use Rattle.theory_polynomial.proofs.FixedOrder.{precedes_rest}
+use Rattle.theory_polynomial.proofs.CoefficientLaws.{coefficient_at-append}
 use Rattle.theory_poly.specs.Kept.{IsKept}
 
 -- equal numbers at one place may be left out of a comparison

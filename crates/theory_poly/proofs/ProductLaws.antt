@@ -5,8 +5,8 @@ use Rattle.std.specs.Cmp.Lexicographic.{slice_cmp}
 use Rattle.std.proofs.lemmas.Int.{ints, unsigned_abs-mul}
 use Rattle.std.proofs.lemmas.List.{append-nil, take-append-drop, take_more, take_more_set, take_all, map-append, length-append, length-map, length-take-le, length-take, length-drop}
 use Rattle.theory_meaning.specs.Limits.{bound}
-use Rattle.theory_method.specs.Polynomial.{Monomial, monomial, IsTerm, PrecedesFirst, IsPolynomial, scaled, sum_of, powers_of_product, multiple_of, product_of, cross_of, height_of, greatest_of, greatest_exponent_of}
-use Rattle.theory_method.proofs.CoefficientLaws.{same_itself, times_times}
+use Rattle.theory_polynomial.specs.Polynomial.{Monomial, monomial, IsTerm, PrecedesFirst, IsPolynomial, scaled, sum_of, powers_of_product, multiple_of, product_of, cross_of, height_of, greatest_of, greatest_exponent_of}
+use Rattle.theory_polynomial.proofs.CoefficientLaws.{same_itself, times_times}
 use Rattle.theory_poly.specs.Kept.{IsKept, IsKeptTerm, IsGathered}
 use Rattle.theory_poly.proofs.ScaleLaws.{product_is_not_zero, product_within, scaled_ordered, gathered_sum}
 

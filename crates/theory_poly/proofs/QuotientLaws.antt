@@ -14,11 +14,11 @@ use Rattle.theory_points.specs.declared.limit.Limit.{Limit}
 use Rattle.theory_points.specs.declared.limit.Limit.TheVariants.{Wide, Memory}
 use Rattle.theory_points.specs.Parts.{AreCoprime}
 use Rattle.theory_points.proofs.CoprimeLemmas.{multiples, AreCoprime-by_gcd}
-use Rattle.theory_method.specs.Polynomial.{Monomial, coefficient_at, AreSame, IsPolynomial, IsWithinLimits, PassesLimit, DividesAll, scaled, height_of, greatest_exponent_of}
-use Rattle.theory_method.specs.RationalPolynomial.{Quotient, IsLowestOf, QuotientPasses, QuotientIsWithin, IsQuotientBeyond}
-use Rattle.theory_method.proofs.CoefficientLaws.{coefficient_at-scaled, same_trans, same_turned, scaled_same, scaled_twice, times_times}
-use Rattle.theory_method.proofs.FixedOrder.{polynomial_unique}
-use Rattle.theory_method.proofs.PrimitiveLaws.{without_factor, divides_multiple}
+use Rattle.theory_polynomial.specs.Polynomial.{Monomial, coefficient_at, AreSame, IsPolynomial, IsWithinLimits, PassesLimit, DividesAll, scaled, height_of, greatest_exponent_of}
+use Rattle.theory_polynomial.specs.RationalPolynomial.{Quotient, IsLowestOf, QuotientPasses, QuotientIsWithin, IsQuotientBeyond}
+use Rattle.theory_polynomial.proofs.CoefficientLaws.{coefficient_at-scaled, same_trans, same_turned, scaled_same, scaled_twice, times_times}
+use Rattle.theory_polynomial.proofs.FixedOrder.{polynomial_unique}
+use Rattle.theory_polynomial.proofs.PrimitiveLaws.{without_factor, divides_multiple}
 use Rattle.theory_poly.specs.Answers.{WideWhere}
 use Rattle.theory_poly.specs.Kept.{IsGreatestWith, IsKeptQuotient, quotient_of}
 use Rattle.theory_poly.proofs.StepLaws.{within_passes_none}

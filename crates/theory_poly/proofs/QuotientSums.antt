@@ -4,9 +4,9 @@ use Rattle.std.proofs.lemmas.Int.{ints}
 use Rattle.std.proofs.Math.Nat.{div-le_self}
 use Rattle.theory_meaning.specs.Limits.{bound}
 use Rattle.theory_points.specs.declared.limit.Limit.{Limit}
-use Rattle.theory_method.specs.Polynomial.{Monomial, AreSame, scaled, sum_of, difference_of, product_of}
-use Rattle.theory_method.specs.RationalPolynomial.{Quotient, IsLowestOf, IsQuotientBeyond, sum_of_quotients, difference_of_quotients, product_of_quotients}
-use Rattle.theory_method.proofs.CoefficientLaws.{same_itself, same_trans, same_turned, sum_same, scaled_twice}
+use Rattle.theory_polynomial.specs.Polynomial.{Monomial, AreSame, scaled, sum_of, difference_of, product_of}
+use Rattle.theory_polynomial.specs.RationalPolynomial.{Quotient, IsLowestOf, IsQuotientBeyond, sum_of_quotients, difference_of_quotients, product_of_quotients}
+use Rattle.theory_polynomial.proofs.CoefficientLaws.{same_itself, same_trans, same_turned, sum_same, scaled_twice}
 use Rattle.theory_poly.specs.Answers.{WideWhere}
 use Rattle.theory_poly.specs.Kept.{IsKept, IsGathered, IsGreatestWith, IsKeptQuotient, quotient_of}
 use Rattle.theory_poly.proofs.ContentLaws.{kept_divided}

@@ -3,8 +3,8 @@ use Rattle.std.proofs.Common.{◌≡◌, ◌≢◌, ℕ, zero, suc, ◌+◌, ◌
 use Rattle.std.proofs.lemmas.Int.{ints, unsigned_abs-mul}
 use Rattle.std.proofs.Math.Nat.{mul-le-mul_left, mul-le-mul}
 use Rattle.theory_meaning.specs.Limits.{bound}
-use Rattle.theory_method.specs.Polynomial.{Monomial, coefficient_at, AreSame, PrecedesFirst, IsPolynomial, IsPolynomialOf, scaled, sum_of, difference_of, height_of}
-use Rattle.theory_method.proofs.CoefficientLaws.{coefficient_at-scaled, sum_same, same_trans, same_itself, scaled_once}
+use Rattle.theory_polynomial.specs.Polynomial.{Monomial, coefficient_at, AreSame, PrecedesFirst, IsPolynomial, IsPolynomialOf, scaled, sum_of, difference_of, height_of}
+use Rattle.theory_polynomial.proofs.CoefficientLaws.{coefficient_at-scaled, sum_same, same_trans, same_itself, scaled_once}
 use Rattle.theory_poly.specs.Kept.{IsKept, IsGathered}
 
 -- a product of two numbers that aren't 0 isn't 0

@@ -7,10 +7,10 @@ use Rattle.theory_meaning.specs.Fraction.{Fraction, den}
 use Rattle.theory_meaning.specs.Limits.{bound}
 use Rattle.theory_points.specs.declared.limit.Limit.{Limit}
 use Rattle.theory_points.specs.declared.limit.Limit.TheVariants.{Wide, Memory}
-use Rattle.theory_method.specs.Polynomial.{Monomial, AreSame, IsPolynomialOf, IsPrimitiveOf, IsWithinLimits, PassesLimit, IsBeyond, scaled, sum_of, degree_in}
-use Rattle.theory_method.specs.PolynomialValue.{part_of, restriction_step, IsWideRestriction}
-use Rattle.theory_method.proofs.CoefficientLaws.{same_itself, same_turned, sum_same, scaled_same}
-use Rattle.theory_method.proofs.PrimitiveLaws.{primitive_of_same}
+use Rattle.theory_polynomial.specs.Polynomial.{Monomial, AreSame, IsPolynomialOf, IsPrimitiveOf, IsWithinLimits, PassesLimit, IsBeyond, scaled, sum_of, degree_in}
+use Rattle.theory_polynomial.specs.PolynomialValue.{part_of, restriction_step, IsWideRestriction}
+use Rattle.theory_polynomial.proofs.CoefficientLaws.{same_itself, same_turned, sum_same, scaled_same}
+use Rattle.theory_polynomial.proofs.PrimitiveLaws.{primitive_of_same}
 use Rattle.theory_poly.specs.Answers.{WideWhere}
 use Rattle.theory_poly.specs.Kept.{IsKept, IsGathered, IsNextStep, PassesInStep, IsSignedForm, IsPrimitiveForm}
 use Rattle.theory_poly.proofs.AnswerLaws.{the_polynomial}

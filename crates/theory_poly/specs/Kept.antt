@@ -3,13 +3,19 @@ use Rattle.std.specs.Prelude.{◌≡◌, ℕ, ◌<◌, ◌≤◌, ◌⊎◌, ℤ
 use Prim.Native.Nat.{◌∣◌}
 use Rattle.theory_meaning.specs.Fraction.{Fraction, den}
 use Rattle.theory_meaning.specs.Limits.{bound}
-use Rattle.theory_method.specs.Polynomial.{Monomial, IsTerm, IsPolynomial, IsPolynomialOf, IsWithinLimits, IsContent, IsBeyond, scaled, sum_of, height_of, greatest_of}
-use Rattle.theory_method.specs.RationalPolynomial.{Quotient, IsLowest, QuotientIsWithin}
+use Rattle.theory_polynomial.specs.Polynomial.{Monomial, IsTerm, IsPolynomial, IsPolynomialOf, IsWithinLimits, IsContent, IsBeyond, scaled, sum_of, height_of, greatest_of}
+use Rattle.theory_polynomial.specs.RationalPolynomial.{Quotient, IsLowest, QuotientIsWithin}
+use Rattle.theory_poly.specs.Hashes.{hash_of}
 
 -- a polynomial within the limits
 pub record IsKept (ts : List Monomial) : Type 0 where
   pub ordered : IsPolynomial ts
   pub within : IsWithinLimits ts
+
+-- a polynomial within the limits, and its hash
+pub record IsKeptWith (ts : List Monomial) (hash : ℕ) : Type 0 where
+  pub kept : IsKept ts
+  pub hashed : hash ≡ hash_of ts
 
 -- the polynomial of a sum of terms, with coefficients of at most this absolute value
 pub record IsGathered (ts : List Monomial) (most : ℕ) (r : List Monomial) : Type 0 where

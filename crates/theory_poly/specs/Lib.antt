@@ -1,5 +1,6 @@
-pub use Rattle.theory_method.specs.Polynomial
-pub use Rattle.theory_method.specs.PolynomialValue
-pub use Rattle.theory_method.specs.RationalPolynomial
+pub use Rattle.theory_polynomial.specs.Polynomial
+pub use Rattle.theory_polynomial.specs.PolynomialValue
+pub use Rattle.theory_polynomial.specs.RationalPolynomial
 pub mod Answers
+pub mod Hashes
 pub mod Kept

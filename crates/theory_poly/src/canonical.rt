@@ -1,5 +1,5 @@
 ghost use Rattle.std.specs.Prelude.{◌≡◌, ◌<◌, length, slice_index_or, int_lt, [], ℤ, pos, negsuc, IfOk, if◌then◌else◌};
-ghost use Rattle.theory_method.specs.Polynomial.{monomial};
+ghost use Rattle.theory_polynomial.specs.Polynomial.{monomial};
 ghost use Rattle.theory_poly.specs.Kept.{IsKept, IsSignedForm};
 
 use crate::content::primitive;

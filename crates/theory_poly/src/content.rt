@@ -1,7 +1,7 @@
 ghost use Rattle.std.specs.Prelude.{◌≡◌, ◌≢◌, ℕ, ◌^◌, ◌<◌, ◌≤◌, ℤ, pos, ◌*ℤ◌, unsigned_abs, IfOk};
 ghost use Rattle.std.specs.Int.{IsGcd};
 ghost use Prim.Native.Nat.{◌∣◌};
-ghost use Rattle.theory_method.specs.Polynomial.{IsPolynomial, IsContent, scaled, height_of};
+ghost use Rattle.theory_polynomial.specs.Polynomial.{IsPolynomial, IsContent, scaled, height_of};
 ghost use Rattle.theory_poly.specs.Kept.{EachDivided, IsGreatestDivisor, IsGreatestWith, IsPrimitiveForm};
 
 use crate::term::{Term, WideTerm};

@@ -1,6 +1,6 @@
 ghost use Rattle.std.specs.Prelude.{◌≡◌, ℕ, ◌^◌, ◌<◌, ◌≤◌, ◌⊎◌, unsigned_abs, IfOk, MatchBool};
 ghost use Rattle.theory_meaning.specs.Limits.{bound};
-ghost use Rattle.theory_method.specs.Polynomial.{Monomial, IsPolynomial, IsPrimitiveOf, IsBeyondDivided, IsWithinLimits, PassesLimit, greatest_of, height_of};
+ghost use Rattle.theory_polynomial.specs.Polynomial.{Monomial, IsPolynomial, IsPrimitiveOf, IsBeyondDivided, IsWithinLimits, PassesLimit, greatest_of, height_of};
 ghost use Rattle.theory_poly.specs.Answers.{WideWhere};
 ghost use Rattle.theory_poly.specs.Kept.{IsKept};
 

@@ -1,6 +1,6 @@
 ghost use Rattle.std.specs.Prelude.{◌≡◌, ◌≢◌, ℕ, ◌+◌, ◌*◌, ◌^◌, ◌<◌, ◌≤◌, ◌++◌, [], ◌∷◌, ℤ, pos, ◌+ℤ◌, ◌*ℤ◌, unsigned_abs, IfOk, OnOk, if◌then◌else◌};
 ghost use Rattle.std.specs.Ordering.{int_eq};
-ghost use Rattle.theory_method.specs.Polynomial.{Monomial, monomial, IsPolynomial, scaled, sum_of, height_of};
+ghost use Rattle.theory_polynomial.specs.Polynomial.{Monomial, monomial, IsPolynomial, scaled, sum_of, height_of};
 ghost use Rattle.theory_meaning.specs.Limits.{bound};
 ghost use Rattle.theory_poly.specs.Kept.{IsKept, IsGathered};
 

@@ -1,6 +1,6 @@
 ghost use Rattle.std.specs.Prelude.{◌≡◌, ◌<◌, slice_set, IfOk};
-ghost use Rattle.theory_method.specs.Polynomial.{monomial, degree_in};
-ghost use Rattle.theory_method.specs.PolynomialValue.{part_of};
+ghost use Rattle.theory_polynomial.specs.Polynomial.{monomial, degree_in};
+ghost use Rattle.theory_polynomial.specs.PolynomialValue.{part_of};
 ghost use Rattle.theory_poly.specs.Kept.{IsKept};
 
 use crate::poly::Poly;

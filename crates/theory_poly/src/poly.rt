@@ -1,13 +1,17 @@
 ghost use Rattle.std.specs.Prelude.{◌≡◌, ◌≢◌, ◌↔◌, ℕ, ◌<◌, ◌≤◌, [], pos, negsuc, unsigned_abs, IfOk, if◌then◌else◌};
+ghost use Rattle.std.specs.Cmp.{partial_equiv_from_equiv};
+ghost use Rattle.std.specs.Hash as fed;
 ghost use Rattle.theory_meaning.specs.Limits.{bound};
-ghost use Rattle.theory_method.specs.Polynomial.{Monomial, IsPolynomialOf, IsBeyond, IsBeyondDivided, IsPrimitiveOf, IsCanonicalOf, IsLinearIn, IsFreeOf, IsSplit, constant_of, symbol_of, sum_of, difference_of, product_of, cross_of, scaled, height_of, degree_in};
-ghost use Rattle.theory_method.specs.PolynomialValue.{Values, HasSignAt, HaveSameSign, GivesValue, IsRestriction, IsWideRestriction};
+ghost use Rattle.theory_polynomial.specs.Polynomial.{Monomial, IsPolynomialOf, IsBeyond, IsBeyondDivided, IsPrimitiveOf, IsCanonicalOf, IsLinearIn, IsFreeOf, IsSplit, constant_of, symbol_of, sum_of, difference_of, product_of, cross_of, scaled, height_of, degree_in};
+ghost use Rattle.theory_polynomial.specs.PolynomialValue.{Values, slope_in, base_in, HasSignAt, HaveSameSign, GivesValue, IsRestriction, IsWideRestriction};
 ghost use Rattle.theory_meaning.specs.declared.words.Sign.{Sign};
 ghost use Rattle.theory_poly.specs.Answers.{WideWhere};
+ghost use Rattle.theory_poly.specs.Hashes.{is_same, hash_of, same_equivalence, same_hashes};
 ghost use Rattle.theory_poly.specs.Kept.{IsKept, EachDivided};
 
 use crate::canonical::{signed_form, starts_below};
 use crate::content::quotient;
+use crate::hashing::hash_of_terms;
 use crate::judging::{judged, judged_primitive};
 use crate::merging::sum_of_multiples;
 use crate::part::{greatest_exponent, part};
@@ -15,25 +19,27 @@ use crate::product::{cross_product, multiplied_out};
 use crate::restriction::last_step;
 use crate::term::{Term, Terms};
 use std::alloc::Global;
+use std::hash::{Hash, Hasher};
 use std::marker::Model;
 use theory_points::{Frac, Limit, NoMemory};
 
-/// A polynomial over whole numbers in the symbols 0 to 31, within the limits.
+/// A polynomial over whole numbers in the symbols 0 to 31, within the limits; it carries its hash.
 #[derive(Debug, Drop)]
 pub struct Poly {
     terms: Vec<Term>,
+    hash: u64,
 }
 
 impl Model for Poly {
     ghost use Rattle.std.specs.Prelude.{List};
-    ghost use Rattle.theory_method.specs.Polynomial.{Monomial};
-    ghost use Rattle.theory_poly.specs.Kept.{IsKept};
+    ghost use Rattle.theory_polynomial.specs.Polynomial.{Monomial};
+    ghost use Rattle.theory_poly.specs.Kept.{IsKeptWith};
 
     ghost Value = { List Monomial };
 
     ghost view = { λ p. p.terms.items };
 
-    ghost invariant = { λ p. IsKept p.terms.items };
+    ghost invariant = { λ p. IsKeptWith p.terms.items p.hash };
 }
 
 impl Poly {
@@ -49,7 +55,7 @@ impl Poly {
                 powers: [0; 32],
             })?;
         }
-        Ok(Poly { terms })
+        Ok(Poly::from_kept(terms))
     }
 
     /// A symbol, counted from 0.
@@ -64,7 +70,7 @@ impl Poly {
             coefficient: 1,
             powers,
         })?;
-        Ok(Poly { terms })
+        Ok(Poly::from_kept(terms))
     }
 
     /// The terms in the fixed order.
@@ -88,17 +94,19 @@ impl Poly {
         requires { IsKept terms.items }
         ensures { result ≡ terms.items }
     {
-        Poly { terms }
+        let hash = hash_of_terms(terms.as_slice());
+        Poly { terms, hash }
     }
 
     /// Each coefficient divided by a number that divides it, in place.
-    pub(crate) fn divided_by(mut self, divisor: u128) -> Poly
+    pub(crate) fn divided_by(self, divisor: u128) -> Poly
         requires positive { 0 < divisor }
         requires divides { EachDivided divisor self }
         ensures { scaled (pos divisor) result ≡ self }
     {
-        divide_all(self.terms.as_mut_slice(), divisor);
-        self
+        let Poly { mut terms, hash: _ } = self;
+        divide_all(terms.as_mut_slice(), divisor);
+        Poly::from_kept(terms)
     }
 
     /// The greatest exponent of a symbol, 0 for none.
@@ -173,7 +181,11 @@ impl Poly {
     pub fn split_linear(&self, alloc: Global, x: u8) -> Result<(Poly, Poly), NoMemory>
         requires symbol { x < 32 }
         requires linear { IsLinearIn x self.now }
-        ensures { IfOk result (λ found. IsSplit x self.now found.0 found.1) }
+        ensures parts { IfOk result (λ found.
+            (found.0 ≡ slope_in x self.now) × (found.1 ≡ base_in x self.now)) }
+
+        // The polynomial is slope times the symbol, plus base; neither has the symbol.
+        ensures split { IfOk result (λ found. IsSplit x self.now found.0 found.1) }
     {
         let slope = part(alloc, x, 1, self.as_slice())?;
         let base = part(alloc, x, 0, self.as_slice())?;
@@ -205,7 +217,33 @@ impl Poly {
         ensures { IfOk result (λ p. p ≡ self.now) }
     {
         let terms = Vec::from_slice(alloc, self.as_slice())?;
-        Ok(Poly { terms })
+        let hash = self.hash;
+        Ok(Poly { terms, hash })
+    }
+}
+
+impl PartialEq for Poly {
+    ghost eq = { is_same };
+
+    ghost laws = { partial_equiv_from_equiv same_equivalence };
+
+    // The hashes tell most others apart before a term is read.
+    fn eq(&self, other: &Poly) -> bool {
+        self.hash == other.hash && self.terms == other.terms
+    }
+}
+
+impl Eq for Poly {
+    ghost laws = { same_equivalence };
+}
+
+impl Hash for Poly {
+    ghost hash_input = { λ P. fed.u64 (hash_of P) };
+
+    ghost respects_eq = { same_hashes };
+
+    fn hash<H: Hasher>(&self, state: &mut H) {
+        state.write_u64(self.hash);
     }
 }
 

@@ -1,6 +1,6 @@
 ghost use Rattle.std.specs.Prelude.{◌≡◌, ℕ, ◌+◌, ◌*◌, ◌^◌, ◌<◌, ◌≤◌, ◌++◌, length, ℤ, negsuc, ◌*ℤ◌, unsigned_abs, IfOk};
 ghost use Rattle.theory_meaning.specs.Limits.{bound};
-ghost use Rattle.theory_method.specs.Polynomial.{Monomial, IsTerm, scaled, product_of, product_of_two, multiple_of, powers_of_product, greatest_of, greatest_exponent_of, height_of, cross_of};
+ghost use Rattle.theory_polynomial.specs.Polynomial.{Monomial, IsTerm, scaled, product_of, product_of_two, multiple_of, powers_of_product, greatest_of, greatest_exponent_of, height_of, cross_of};
 ghost use Rattle.theory_poly.specs.Kept.{IsKept, IsKeptTerm, IsGathered};
 
 use crate::merging::{merged, product};

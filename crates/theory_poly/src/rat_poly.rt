@@ -1,7 +1,7 @@
 ghost use Rattle.std.specs.Prelude.{◌≡◌, ℕ, ◌*◌, ◌^◌, ◌<◌, ◌≤◌, List, ℤ, pos, ◌<ℤ◌, unsigned_abs, IfOk};
 ghost use Rattle.theory_meaning.specs.Limits.{bound};
-ghost use Rattle.theory_method.specs.Polynomial.{Monomial, IsPolynomial, height_of};
-ghost use Rattle.theory_method.specs.RationalPolynomial.{Quotient, IsLowestOf, IsQuotientBeyond, sum_of_quotients, difference_of_quotients, product_of_quotients};
+ghost use Rattle.theory_polynomial.specs.Polynomial.{Monomial, IsPolynomial, height_of};
+ghost use Rattle.theory_polynomial.specs.RationalPolynomial.{Quotient, IsLowestOf, IsQuotientBeyond, sum_of_quotients, difference_of_quotients, product_of_quotients};
 ghost use Rattle.theory_poly.specs.Answers.{WideWhere};
 ghost use Rattle.theory_poly.specs.Kept.{IsKept, IsKeptQuotient, quotient_of};
 
@@ -26,7 +26,7 @@ pub struct RatPoly {
 }
 
 impl Model for RatPoly {
-    ghost use Rattle.theory_method.specs.RationalPolynomial.{Quotient};
+    ghost use Rattle.theory_polynomial.specs.RationalPolynomial.{Quotient};
     ghost use Rattle.theory_poly.specs.Kept.{IsKeptQuotient, quotient_of};
 
     ghost Value = { Quotient };

@@ -1,8 +1,8 @@
 ghost use Rattle.std.specs.Prelude.{◌≡◌, ℕ, ◌*◌, ◌<◌, ◌≤◌, ◌⊎◌, ℤ, pos, ◌≤ℤ◌, unsigned_abs, IfOk};
 ghost use Rattle.theory_meaning.specs.Fraction.{Fraction, den};
 ghost use Rattle.theory_meaning.specs.Limits.{bound};
-ghost use Rattle.theory_method.specs.Polynomial.{Monomial, scaled, sum_of, degree_in, IsPolynomialOf, IsBeyond};
-ghost use Rattle.theory_method.specs.PolynomialValue.{restriction_step, IsWideRestriction};
+ghost use Rattle.theory_polynomial.specs.Polynomial.{Monomial, scaled, sum_of, degree_in, IsPolynomialOf, IsBeyond};
+ghost use Rattle.theory_polynomial.specs.PolynomialValue.{restriction_step, IsWideRestriction};
 ghost use Rattle.theory_poly.specs.Answers.{WideWhere};
 ghost use Rattle.theory_poly.specs.Kept.{IsKept, IsNextStep, PassesInStep};
 

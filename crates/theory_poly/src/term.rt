@@ -1,4 +1,4 @@
-use theory_method::Term as AnyTerm;
+use theory_polynomial::Term as AnyTerm;
 
 /// A coefficient of at most 2^58 in absolute value, with the exponent of symbol k at place k.
 pub type Term = AnyTerm<i64>;

@@ -1,7 +1,7 @@
 -- A claim and its negation have as many atoms in their normal forms.
 use Rattle.std.proofs.Common.{◌≡◌, ℕ, ◌+◌, min, refl, sym, ap₂, arith}
 use Rattle.theory_meaning.specs.Tree.{Claim, Claims, always, never, atom, negation, conjunction, disjunction, implication, equivalence, none, more}
-use Rattle.theory_method.specs.NormalForm.{normal_form, negated_form, normal_forms, negated_forms, atom_count, atom_count_of_all}
+use Rattle.theory_formula.specs.NormalForm.{normal_form, negated_form, normal_forms, negated_forms, atom_count, atom_count_of_all}
 
 mutual
   pub negated_count : (c : Claim) → atom_count (negated_form c) ≡ atom_count (normal_form c)

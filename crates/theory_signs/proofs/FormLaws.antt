@@ -1,18 +1,18 @@
 -- The lowest form of an expression is one, and what two results give together.
-use Rattle.std.proofs.Common.{◌≡◌, ℕ, zero, suc, ◌+◌, ◌-◌, ◌*◌, ◌<◌, ◌⊎◌, ℤ, pos, ◌+ℤ◌, ◌*ℤ◌, Bool, true, false, sym, subst, subst₂, arith, inl, inr, ⊎_elim, Result, Ok, Err, IfOk}
+use Rattle.std.proofs.Common.{◌≡◌, ℕ, zero, suc, ◌+◌, ◌-◌, ◌*◌, ◌<◌, ◌⊎◌, pos, ◌+ℤ◌, ◌*ℤ◌, Bool, true, false, sym, subst, subst₂, arith, inl, inr, ⊎_elim, Result, Ok, Err, IfOk}
 use Rattle.theory_meaning.specs.Fraction.{den}
 use Rattle.theory_meaning.specs.Point.{Name}
-use Rattle.theory_meaning.specs.Tree.{Expr, number, symbol, sum, difference, opposite, product, power}
+use Rattle.theory_meaning.specs.Tree.{Expr, number, symbol, sum, difference, opposite, product, power, quotient}
 use Rattle.std.specs.Prelude.{List, [], if◌then◌else◌}
 use Rattle.std.specs.Str.{bytes_eq}
 use Rattle.std.proofs.Math.Nat.{eq-one_of_dvd-one}
 use Rattle.std.proofs.lemmas.Int.{ints}
 use Rattle.theory_points.specs.declared.limit.Limit.{Limit}
 use Rattle.theory_points.specs.declared.limit.Limit.TheVariants.{Wide, Memory}
-use Rattle.theory_method.specs.Polynomial.{constant_of, symbol_of, no_powers}
-use Rattle.theory_method.specs.RationalPolynomial.{Quotient, IsLowest, IsLowestOf, IsQuotientBeyond, sum_of_quotients, difference_of_quotients, product_of_quotients}
-use Rattle.theory_method.specs.Lowered.{place_of, over, IsResultOf, opposite_of_quotient, IsPowerOf, IsFormOf}
-use Rattle.theory_method.specs.LoweringLimits.{IsBeyondBy, IsWidePower, IsWideExpr}
+use Rattle.theory_polynomial.specs.Polynomial.{constant_of, symbol_of, no_powers}
+use Rattle.theory_polynomial.specs.RationalPolynomial.{Quotient, IsLowest, IsLowestOf, IsQuotientBeyond, sum_of_quotients, difference_of_quotients, product_of_quotients}
+use Rattle.theory_formula.specs.Lowered.{place_of, over, IsResultOf, opposite_of_quotient, IsPowerOf, IsFormOf}
+use Rattle.theory_formula.specs.LoweringLimits.{IsBeyondBy, IsWidePower, IsWideExpr}
 use Rattle.theory_poly.specs.Answers.{WideWhere}
 use Rattle.theory_poly.proofs.QuotientLaws.{lowest_unique}
 use Rattle.theory_signs.specs.Combined.{Combines, Opposes, Raises}
@@ -90,6 +90,7 @@ form ns (difference u v) = result_form difference_of_quotients (IsFormOf ns u) (
 form ns (opposite u) = opposite_form (IsFormOf ns u) (form ns u)
 form ns (product u v) = result_form product_of_quotients (IsFormOf ns u) (IsFormOf ns v) product_is_operation (form ns u) (form ns v)
 form ns (power u k) = raised_form (IsFormOf ns u) k (form ns u)
+form ns (quotient u v) = record { low = λ r h. absurd h; unique = λ r s h k. absurd h }
 
 -- two results give the lowest form of the operation
 pub combined_value : (op : Quotient → Quotient → Quotient) (U V : Quotient → Type 0) (first second result : Result Quotient Limit)

@@ -8,14 +8,14 @@ use Rattle.std.proofs.lemmas.Slice.Eq.{bytes_eq-Decides}
 use mir.Val.{to_z, of_z}
 use Rattle.theory_points.specs.declared.limit.NoMemory.{NoMemory}
 use Rattle.theory_meaning.specs.declared.words.Sign.{Sign}
-use Rattle.theory_method.specs.declared.signs.Signs.{Signs}
-use Rattle.theory_method.specs.Polynomial.{Monomial, IsPolynomial, coefficient_at, no_powers}
-use Rattle.theory_method.specs.PolynomialValue.{Values}
-use Rattle.theory_method.specs.Signs.{has, sign_of_whole}
-use Rattle.theory_method.specs.Formula.{Formula, formulas_from, more, negated, negated_all, truth_at, sign_at}
-use Rattle.theory_method.specs.SignCondition.{IsConstant, HasSymbol, IsCanonicalAtom, decided}
-use Rattle.theory_method.proofs.FormulaLaws.{negation_turns}
-use Rattle.theory_method.proofs.ConditionLaws.{condition_truth, constant_from_first, symbol_from_first}
+use Rattle.theory_formula.specs.declared.signs.Signs.{Signs}
+use Rattle.theory_polynomial.specs.Polynomial.{Monomial, IsPolynomial, coefficient_at, no_powers}
+use Rattle.theory_polynomial.specs.PolynomialValue.{Values}
+use Rattle.theory_formula.specs.Signs.{has, sign_of_whole}
+use Rattle.theory_formula.specs.Formula.{Formula, formulas_from, more, negated, negated_all, truth_at, sign_at}
+use Rattle.theory_formula.specs.SignCondition.{IsConstant, HasSymbol, IsCanonicalAtom, decided}
+use Rattle.theory_formula.proofs.FormulaLaws.{negation_turns}
+use Rattle.theory_formula.proofs.ConditionLaws.{condition_truth, constant_from_first, symbol_from_first}
 use Rattle.theory_poly.specs.Kept.{IsKept}
 use Rattle.theory_signs.specs.declared.formula.Formula as made
 use Rattle.theory_signs.specs.Plain.{formula_of}

@@ -1,18 +1,20 @@
 -- The formula of an atom, of both or either of two claims, of an equivalence, and of a list, claim by claim.
-use Rattle.std.proofs.Common.{◌≡◌, ℕ, ◌+◌, ◌<◌, ◌≤◌, ◌⊎◌, Bool, true, false, not, List, [], ◌∷◌, ◌++◌, length, map, drop, get_or, refl, sym, ap, ◌∙◌, subst, inr, ⊎_elim, Result, Ok, Err, IfOk}
+use Rattle.std.proofs.Common.{◌≡◌, ℕ, ◌+◌, ◌<◌, ◌≤◌, Bool, true, false, not, List, [], ◌∷◌, ◌++◌, length, map, drop, get_or, refl, sym, ap, ◌∙◌, subst, inr, ⊎_elim, Result, Ok, Err, IfOk}
 use Rattle.std.specs.Prelude.{if◌then◌else◌}
 use Rattle.std.proofs.lemmas.List.{at_drop_more, append-nil, append_assoc, map-append}
 use Rattle.theory_meaning.specs.declared.words.Rel.{Rel}
 use Rattle.theory_meaning.specs.Point.{Name, Point}
 use Rattle.theory_meaning.specs.Truth.{meets}
-use Rattle.theory_method.proofs.LoweredLaws.{lowered_truth}
+use Rattle.theory_formula.proofs.LoweredAtoms.{lowered_named}
+use Rattle.theory_formula.proofs.LoweredLaws.{lowered_truth}
 use Rattle.theory_signs.specs.declared.fault.LowerFault.{LowerFault}
 use Rattle.theory_meaning.specs.Tree as claim
 use Rattle.theory_points.specs.declared.limit.Limit.{Limit}
-use Rattle.theory_method.specs.NormalForm.{opposite_rel, both, either}
-use Rattle.theory_method.specs.Formula as plain
-use Rattle.theory_method.specs.Lowered.{values_of, IsComparison, IsFormulaOf, AreFormulasOf, IsLowered}
-use Rattle.theory_method.specs.LoweringLimits.{IsWideClaim, IsWideAmong, AreListedClaims, AreListed}
+use Rattle.theory_formula.specs.NormalForm.{opposite_rel, both, either}
+use Rattle.theory_formula.specs.Formula as plain
+use Rattle.theory_formula.specs.Lowered.{values_of, IsComparison, IsFormulaOf, AreFormulasOf, IsLowered}
+use Rattle.theory_formula.specs.LoweringLimits.{IsWideClaim, IsWideAmong, AreListedClaims, AreListed}
+use Rattle.theory_formula.specs.WrittenClaim.{IsNamed}
 use Rattle.theory_syntax.specs.declared.claim.Claim.{Claim, Claim-F, fold-roll-Claim}
 use Rattle.theory_syntax.specs.declared.claim.Claim.TheVariants.{Atom, rolls-Atom}
 use Rattle.theory_syntax.specs.declared.expr.Expr.{Expr}
@@ -125,3 +127,9 @@ pub answers_lowered : (ns : List Name) (cs : List claim.Claim) (result : Result 
     → IfOk result (λ F. (p : Point) → plain.truth_at (formula_of F) (values_of ns p) ≡ meets cs p)
 answers_lowered ns cs (Ok F) few listed h = λ p. lowered_truth ns cs (formula_of F) p few listed h
 answers_lowered ns cs (Err e) few listed h = tt
+
+-- and each symbol that occurs in it has a name
+pub answers_named : (ns : List Name) (cs : List claim.Claim) (result : Result Formula LowerFault) → AreListed ns cs
+    → IfOk result (λ F. IsLowered ns cs (formula_of F)) → IfOk result (λ F. plain.EachAtom (IsNamed ns) (formula_of F))
+answers_named ns cs (Ok F) listed h = lowered_named ns cs (formula_of F) listed h
+answers_named ns cs (Err e) listed h = tt

@@ -1,6 +1,6 @@
 -- The equations of `formula_of` at lists of members.
 use Rattle.std.proofs.Common.{◌≡◌, List, map, Vec, Global, sym, ap, ◌∙◌}
-use Rattle.theory_method.specs.Formula as plain
+use Rattle.theory_formula.specs.Formula as plain
 use Rattle.theory_signs.specs.declared.formula.Formula.{Formula, Formula-F, fold-roll-Formula}
 use Rattle.theory_signs.specs.declared.formula.Formula.TheVariants.{And, Or, rolls-And, rolls-Or}
 use Rattle.theory_signs.specs.Plain.{formula_of, formula_step}

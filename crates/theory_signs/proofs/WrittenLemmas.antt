@@ -8,16 +8,16 @@ use Rattle.theory_meaning.specs.Fraction.{Fraction, den, whole}
 use Rattle.theory_meaning.specs.Limits.{bound}
 use Rattle.theory_meaning.specs.Point.{Name, Point}
 use Rattle.theory_meaning.specs.Truth.{truth_of}
-use Rattle.theory_method.specs.Lowered.{values_of}
-use Rattle.theory_method.proofs.WrittenLaws.{written_truth}
+use Rattle.theory_formula.specs.Lowered.{values_of}
+use Rattle.theory_formula.proofs.WrittenLaws.{written_truth}
 use Rattle.theory_points.specs.Parts.{IsKept, IsQuotient, IsWideQuotient}
 use Rattle.theory_points.proofs.KeptLemmas.{same_parts}
-use Rattle.theory_method.specs.Formula as formula
+use Rattle.theory_formula.specs.Formula as formula
 use Rattle.theory_signs.specs.declared.formula.Formula as made
 use Rattle.theory_signs.specs.Plain.{formula_of}
 use Rattle.theory_signs.proofs.PlainLemmas.{formula_of-And, formula_of-Or}
 use Rattle.theory_meaning.specs.Tree as plain
-use Rattle.theory_method.specs.WrittenClaim.{both_of, either_of, factors_of, written_claim, written_claims, IsNamed}
+use Rattle.theory_formula.specs.WrittenClaim.{both_of, either_of, factors_of, written_claim, written_claims, IsNamed}
 use Rattle.theory_syntax.specs.declared.claim.Claim.{Claim, Claim-F, fold-roll-Claim}
 use Rattle.theory_syntax.specs.declared.claim.Claim.TheVariants.{And, Or, rolls-And, rolls-Or}
 use Rattle.theory_syntax.specs.Plain.{claim_of, claim_step}

@@ -1,9 +1,9 @@
 -- What the parts of an expression's lowest form give together.
 use Rattle.std.specs.Prelude.{◌≡◌, ℕ, Result, Ok, Err, IfOk}
 use Rattle.theory_points.specs.declared.limit.Limit.{Limit}
-use Rattle.theory_method.specs.RationalPolynomial.{Quotient, IsLowestOf, IsQuotientBeyond, sum_of_quotients, difference_of_quotients, product_of_quotients}
-use Rattle.theory_method.specs.Lowered.{opposite_of_quotient, IsPowerOf}
-use Rattle.theory_method.specs.LoweringLimits.{IsWidePower}
+use Rattle.theory_polynomial.specs.RationalPolynomial.{Quotient, IsLowestOf, IsQuotientBeyond, sum_of_quotients, difference_of_quotients, product_of_quotients}
+use Rattle.theory_formula.specs.Lowered.{opposite_of_quotient, IsPowerOf}
+use Rattle.theory_formula.specs.LoweringLimits.{IsWidePower}
 use Rattle.theory_poly.specs.Answers.{WideWhere}
 use Rattle.theory_signs.specs.declared.quotients.Operation.{Operation}
 use Rattle.theory_signs.specs.declared.quotients.Operation.TheVariants.{Sum, Difference, Product}

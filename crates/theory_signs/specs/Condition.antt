@@ -1,7 +1,7 @@
 -- What contracts see of an atom.
 use Rattle.std.specs.Prelude.{List}
-use Rattle.theory_method.specs.declared.signs.Signs.{Signs}
-use Rattle.theory_method.specs.Polynomial.{Monomial}
+use Rattle.theory_formula.specs.declared.signs.Signs.{Signs}
+use Rattle.theory_polynomial.specs.Polynomial.{Monomial}
 
 -- a polynomial, and the signs that it may have
 pub record Condition : Type 0 where

@@ -1,8 +1,8 @@
-pub use Rattle.theory_method.specs.Signs
-pub use Rattle.theory_method.specs.Formula
-pub use Rattle.theory_method.specs.SignCondition
+pub use Rattle.theory_formula.specs.Signs
+pub use Rattle.theory_formula.specs.Formula
+pub use Rattle.theory_formula.specs.SignCondition
 pub mod Condition
 pub mod Plain
 pub mod Combined
 pub mod Lowering
-pub mod Told
+pub mod Message

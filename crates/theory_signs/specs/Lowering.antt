@@ -5,8 +5,8 @@ use Rattle.std.specs.Global.{Global}
 use Rattle.theory_meaning.specs.Tree as claim
 use Rattle.theory_points.specs.declared.limit.Limit.{Limit}
 use Rattle.theory_points.specs.declared.limit.Limit.TheVariants as limit
-use Rattle.theory_method.specs.NormalForm.{normal_form, negated_form, normal_forms, negated_forms}
-use Rattle.theory_method.specs.Formula as plain
+use Rattle.theory_formula.specs.NormalForm.{normal_form, negated_form, normal_forms, negated_forms}
+use Rattle.theory_formula.specs.Formula as plain
 use Rattle.theory_signs.specs.declared.fault.LowerFault.{LowerFault}
 use Rattle.theory_signs.specs.declared.fault.LowerFault.TheVariants.{Large, Wide, Memory}
 use Rattle.theory_signs.specs.declared.formula.Formula.{Formula}

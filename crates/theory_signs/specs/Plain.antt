@@ -1,5 +1,5 @@
 -- The plain trees that formulas stand for.
-use Rattle.theory_method.specs.Formula as plain
+use Rattle.theory_formula.specs.Formula as plain
 use Rattle.theory_signs.specs.declared.formula.Formula.{Formula}
 use Rattle.theory_signs.specs.declared.formula.Formula.TheOpen.{Formula-F}
 use Rattle.theory_signs.specs.declared.formula.Formula.TheFolds.{fold-Formula}

@@ -1,10 +1,10 @@
 ghost use Rattle.std.specs.Prelude.{◌≡◌, IfOk};
-ghost use Rattle.theory_method.specs.SignCondition.{IsAtomPolynomial};
+ghost use Rattle.theory_formula.specs.SignCondition.{IsAtomPolynomial};
 ghost use Rattle.theory_signs.specs.Condition.{Condition, condition};
 
 use std::alloc::Global;
 use std::marker::Model;
-use theory_method::Signs;
+use theory_formula::Signs;
 use theory_points::NoMemory;
 use theory_poly::Poly;
 
@@ -16,7 +16,7 @@ pub struct Atom {
 }
 
 impl Model for Atom {
-    ghost use Rattle.theory_method.specs.SignCondition.{IsAtomPolynomial};
+    ghost use Rattle.theory_formula.specs.SignCondition.{IsAtomPolynomial};
     ghost use Rattle.theory_signs.specs.Condition.{Condition, condition};
 
     ghost Value = { Condition };

@@ -2,10 +2,10 @@ ghost use Rattle.std.specs.Prelude.{◌≡◌, IfOk, map};
 ghost use Rattle.theory_meaning.specs.Point.{Point};
 ghost use Rattle.theory_meaning.specs.Tree.{claims_from};
 ghost use Rattle.theory_meaning.specs.Truth.{truth_of};
-ghost use Rattle.theory_method.specs.Formula.{truth_at, EachAtom};
-ghost use Rattle.theory_method.specs.Formula as plain;
-ghost use Rattle.theory_method.specs.Lowered.{values_of};
-ghost use Rattle.theory_method.specs.WrittenClaim.{IsNamed, written_claim, rel_of, both_of, either_of};
+ghost use Rattle.theory_formula.specs.Formula.{truth_at, EachAtom};
+ghost use Rattle.theory_formula.specs.Formula as plain;
+ghost use Rattle.theory_formula.specs.Lowered.{values_of};
+ghost use Rattle.theory_formula.specs.WrittenClaim.{IsNamed, written_claim, rel_of, both_of, either_of};
 ghost use Rattle.theory_syntax.specs.Plain.{claim_of as tree_of};
 ghost use Rattle.theory_signs.specs.Plain.{formula_of};
 
@@ -13,7 +13,7 @@ use crate::atom::Atom;
 use crate::formula::Formula;
 use crate::polynomials::polynomial;
 use std::alloc::Global;
-use theory_method::Signs;
+use theory_formula::Signs;
 use theory_points::{Frac, Name, Names, NoMemory};
 use theory_syntax::{Claim, Claims, Expr, Rel};
 

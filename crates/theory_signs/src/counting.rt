@@ -1,6 +1,6 @@
 ghost use Rattle.std.specs.Prelude.{◌≡◌, ◌+◌, ◌≤◌, min};
 ghost use Rattle.theory_meaning.specs.Tree.{claims_from};
-ghost use Rattle.theory_method.specs.NormalForm.{normal_form, normal_forms, atom_count, atom_count_of_all};
+ghost use Rattle.theory_formula.specs.NormalForm.{normal_form, normal_forms, atom_count, atom_count_of_all};
 ghost use Rattle.theory_syntax.specs.Plain.{claim_of as tree_of, claims_of};
 
 use theory_syntax::Claim;

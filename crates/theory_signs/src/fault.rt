@@ -18,9 +18,9 @@ pub enum LowerFault {
 
 impl fmt::Display for LowerFault {
     ghost use Rattle.std.specs.Prelude.{Some};
-    ghost use Rattle.theory_signs.specs.Told.{told_by};
+    ghost use Rattle.theory_signs.specs.Message.{message_of};
 
-    ghost output = { λ fault. Some (told_by fault) };
+    ghost output = { λ fault. Some (message_of fault) };
 
     fn fmt<W: fmt::Write>(&self, f: &mut fmt::Formatter<W>) -> fmt::Result {
         f.write_str(match self {

@@ -6,8 +6,6 @@
 #![tactic(auto)]
 
 mod atom;
-#[cfg(test)]
-mod claim_rows;
 mod claims;
 mod copying;
 mod counting;
@@ -15,23 +13,11 @@ mod fault;
 mod formula;
 mod listing;
 mod lowering;
-#[cfg(test)]
-mod lowering_tests;
 mod making;
 mod naming;
 mod negation;
 mod polynomials;
 mod quotients;
-#[cfg(test)]
-mod rows;
-#[cfg(test)]
-mod tests;
-#[cfg(test)]
-mod truth_rows;
-#[cfg(test)]
-mod truth_tests;
-#[cfg(test)]
-mod written_tests;
 
 pub use atom::Atom;
 pub use claims::claim_of;
@@ -42,4 +28,4 @@ pub use lowering::lower;
 pub use making::{constant_sign, make_atom};
 pub use naming::is_named;
 pub use negation::negate;
-pub use theory_method::Signs;
+pub use theory_formula::Signs;

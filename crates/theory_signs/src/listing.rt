@@ -1,6 +1,6 @@
 ghost use Rattle.std.specs.Prelude.{◌≡◌, MatchBool};
 ghost use Rattle.theory_meaning.specs.Tree.{claims_from};
-ghost use Rattle.theory_method.specs.LoweringLimits.{IsListedExpr, IsListedClaim, AreListedClaims, AreListed};
+ghost use Rattle.theory_formula.specs.LoweringLimits.{IsListedExpr, IsListedClaim, AreListedClaims, AreListed};
 ghost use Rattle.theory_syntax.specs.Plain.{expr_of, claim_of as tree_of, claims_of};
 
 use crate::quotients::place;

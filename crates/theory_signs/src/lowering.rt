@@ -2,12 +2,13 @@ ghost use Rattle.std.specs.Prelude.{◌≡◌, ◌≤◌, ◌++◌, [], ◌∷�
 ghost use Rattle.theory_meaning.specs.Point.{Point};
 ghost use Rattle.theory_meaning.specs.Tree.{claims_from};
 ghost use Rattle.theory_meaning.specs.Truth.{meets};
-ghost use Rattle.theory_method.specs.NormalForm.{opposite_rel, IsLarge};
-ghost use Rattle.theory_method.specs.Formula.{formulas_from, truth_at};
-ghost use Rattle.theory_method.specs.SignCondition.{decided};
-ghost use Rattle.theory_method.specs.Signs.{signs_of};
-ghost use Rattle.theory_method.specs.Lowered.{values_of, IsComparison, IsFormulaOf, AreFormulasOf, IsLowered};
-ghost use Rattle.theory_method.specs.LoweringLimits.{IsWideAtom, IsWideClaim, IsWideAmong, AreWide, IsListedExpr, IsListedClaim, AreListedClaims, AreListed};
+ghost use Rattle.theory_formula.specs.NormalForm.{opposite_rel, IsLarge};
+ghost use Rattle.theory_formula.specs.Formula.{formulas_from, truth_at, EachAtom};
+ghost use Rattle.theory_formula.specs.SignCondition.{decided};
+ghost use Rattle.theory_formula.specs.Signs.{signs_of};
+ghost use Rattle.theory_formula.specs.Lowered.{values_of, IsComparison, IsFormulaOf, AreFormulasOf, IsLowered};
+ghost use Rattle.theory_formula.specs.WrittenClaim.{IsNamed};
+ghost use Rattle.theory_formula.specs.LoweringLimits.{IsWideAtom, IsWideClaim, IsWideAmong, AreWide, IsListedExpr, IsListedClaim, AreListedClaims, AreListed};
 ghost use Rattle.theory_poly.specs.Answers.{WideWhere};
 ghost use Rattle.theory_syntax.specs.Plain.{expr_of, claim_of as tree_of, claims_of};
 ghost use Rattle.theory_signs.specs.Plain.{formula_of};
@@ -19,7 +20,7 @@ use crate::formula::{Formula, Formulas};
 use crate::making::{decision, make_atom};
 use crate::quotients::{Operation, combined, quotient};
 use std::alloc::Global;
-use theory_method::Signs;
+use theory_formula::Signs;
 use theory_points::{Limit, Name, NoMemory};
 use theory_syntax::{Claim, Expr, Rel, Sentence};
 
@@ -36,6 +37,10 @@ pub fn lower(alloc: Global, sentence: &Sentence) -> Result<Formula, LowerFault>
     ensures truth { IfOk result (λ F. (p : Point) →
         truth_at (formula_of F) (values_of sentence.now.symbols p)
         ≡ meets (claims_of sentence.now.conjuncts.items) p) }
+
+    // Each symbol that occurs has a name, as the written claim requires.
+    ensures named { IfOk result (λ F.
+        EachAtom (IsNamed sentence.now.symbols) (formula_of F)) }
 {
     conjuncts_lowered(alloc, sentence)
 }

@@ -1,16 +1,16 @@
 ghost use Rattle.std.specs.Prelude.{◌≡◌, IfOk, MatchOption};
-ghost use Rattle.theory_method.specs.Polynomial.{IsPolynomial, coefficient_at, no_powers};
-ghost use Rattle.theory_method.specs.PolynomialValue.{Values};
-ghost use Rattle.theory_method.specs.Signs.{has, sign_of_whole};
-ghost use Rattle.theory_method.specs.Formula.{truth_at, sign_at};
-ghost use Rattle.theory_method.specs.SignCondition.{IsConstant, HasSymbol, IsAtomOf, IsCanonicalAtom, decided};
+ghost use Rattle.theory_polynomial.specs.Polynomial.{IsPolynomial, coefficient_at, no_powers};
+ghost use Rattle.theory_polynomial.specs.PolynomialValue.{Values};
+ghost use Rattle.theory_formula.specs.Signs.{has, sign_of_whole};
+ghost use Rattle.theory_formula.specs.Formula.{truth_at, sign_at};
+ghost use Rattle.theory_formula.specs.SignCondition.{IsConstant, HasSymbol, IsAtomOf, IsCanonicalAtom, decided};
 ghost use Rattle.theory_signs.specs.Plain.{formula_of};
 
 use crate::atom::Atom;
 use crate::formula::Formula;
 use std::alloc::Global;
+use theory_formula::Signs;
 use theory_meaning::Sign;
-use theory_method::Signs;
 use theory_points::NoMemory;
 use theory_poly::Poly;
 

@@ -1,6 +1,6 @@
 ghost use Rattle.std.specs.Prelude.{◌≡◌, IfOk, map, not};
-ghost use Rattle.theory_method.specs.PolynomialValue.{Values};
-ghost use Rattle.theory_method.specs.Formula.{negated, truth_at};
+ghost use Rattle.theory_polynomial.specs.PolynomialValue.{Values};
+ghost use Rattle.theory_formula.specs.Formula.{negated, truth_at};
 ghost use Rattle.theory_signs.specs.Plain.{formula_of};
 
 use crate::formula::{Formula, Formulas};

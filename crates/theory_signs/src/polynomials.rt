@@ -2,7 +2,7 @@ ghost use Rattle.std.specs.Prelude.{◌≡◌, ◌≤◌, ◌<◌, ◌++◌, IfO
 ghost use Rattle.theory_meaning.specs.Fraction.{whole};
 ghost use Rattle.theory_meaning.specs.Limits.{bound};
 ghost use Rattle.theory_meaning.specs.Tree.{Expr as Tree, number, sum, difference, opposite, product};
-ghost use Rattle.theory_method.specs.WrittenClaim.{small_power, power_factors, factors_of, product_from, multiple_of, term_of, sum_from, polynomial_of};
+ghost use Rattle.theory_formula.specs.WrittenClaim.{small_power, power_factors, factors_of, product_from, multiple_of, term_of, sum_from, polynomial_of};
 ghost use Rattle.theory_poly.specs.Kept.{IsKept};
 ghost use Rattle.theory_syntax.specs.Plain.{expr_of};
 

@@ -1,10 +1,10 @@
 ghost use Rattle.std.specs.Prelude.{◌≡◌, ◌<◌, ◌≤◌, ◌<ℤ◌, length, pos, unsigned_abs, IfOk, OnOk};
 ghost use Rattle.theory_meaning.specs.Fraction.{den};
 ghost use Rattle.theory_meaning.specs.Limits.{bound};
-ghost use Rattle.theory_method.specs.Polynomial.{constant_of, symbol_of};
-ghost use Rattle.theory_method.specs.RationalPolynomial.{Quotient, IsLowestOf, IsQuotientBeyond, QuotientPasses};
-ghost use Rattle.theory_method.specs.Lowered.{place_of, over, opposite_of_quotient, IsPowerOf, IsFormOf};
-ghost use Rattle.theory_method.specs.LoweringLimits.{IsWidePower, IsWideExpr, IsListedExpr};
+ghost use Rattle.theory_polynomial.specs.Polynomial.{constant_of, symbol_of};
+ghost use Rattle.theory_polynomial.specs.RationalPolynomial.{Quotient, IsLowestOf, IsQuotientBeyond, QuotientPasses};
+ghost use Rattle.theory_formula.specs.Lowered.{place_of, over, opposite_of_quotient, IsPowerOf, IsFormOf};
+ghost use Rattle.theory_formula.specs.LoweringLimits.{IsWidePower, IsWideExpr, IsListedExpr};
 ghost use Rattle.theory_poly.specs.Answers.{WideWhere};
 ghost use Rattle.theory_syntax.specs.Plain.{expr_of};
 ghost use Rattle.theory_signs.specs.Combined.{operation_of, Combines, Opposes, Raises};

@@ -4,7 +4,7 @@ use Rattle.std.specs.Prelude.{◌||◌}
 use Rattle.std.specs.List.{list_any}
 use Rattle.std.proofs.lemmas.List.{append_assoc}
 use Rattle.std.proofs.lemmas.List.Folds.{list_any-append}
-use Rattle.theory_method.specs.Formula.{Formula, always, never, atom, conjunction, disjunction}
+use Rattle.theory_formula.specs.Formula.{Formula, always, never, atom, conjunction, disjunction}
 use Rattle.theory_elimination.specs.SameFormula.{is_same}
 use Rattle.theory_elimination.specs.Simplified.{as_part, as_formula, first_ones}
 use Rattle.theory_simplify.specs.declared.drafts.Draft as lent

@@ -1,10 +1,10 @@
 -- Lists of the kind are opened, and members are simplified step by step.
 use Rattle.std.proofs.Common.{◌≡◌, Bool, true, false, not, List, [], ◌∷◌, ◌++◌, map, Option, None, Some, Result, Ok, Err, IfOk, Vec, Global, option_map, option_and_then, refl, sym, ap, ◌∙◌}
 use Rattle.std.proofs.lemmas.List.{append_assoc}
-use Rattle.theory_method.specs.Formula as plain
-use Rattle.theory_method.specs.Formula.{always, never, atom, conjunction, disjunction, more, formulas_from, formulas_list, truth_at}
-use Rattle.theory_method.specs.PolynomialValue.{Values}
-use Rattle.theory_method.specs.SignCondition.{decided}
+use Rattle.theory_formula.specs.Formula as plain
+use Rattle.theory_formula.specs.Formula.{always, never, atom, conjunction, disjunction, more, formulas_from, formulas_list, truth_at}
+use Rattle.theory_polynomial.specs.PolynomialValue.{Values}
+use Rattle.theory_formula.specs.SignCondition.{decided}
 use Rattle.theory_elimination.specs.Facts.{Facts}
 use Rattle.theory_elimination.specs.Simplified.{Part, as_part, simplified, spliced, gathered, facts_within, members_under, left_open, finished, simplified_list, all_parts_of}
 use Rattle.theory_elimination.proofs.SimplifiedTruth.{simplified_truth}

@@ -3,13 +3,13 @@ use Rattle.std.proofs.Common.{◌≡◌, ℕ, suc, ◌<◌, Bool, true, false, L
 use Rattle.std.specs.Option.{unwrap_or}
 use Rattle.std.proofs.Math.ListN.{set}
 use Rattle.std.proofs.lemmas.List.{map-set, map-append}
-use Rattle.theory_method.specs.declared.signs.Signs.{Signs}
-use Rattle.theory_method.specs.Signs.{meet}
-use Rattle.theory_method.specs.Terms.{Monomial}
-use Rattle.theory_method.specs.Formula.{Formula}
+use Rattle.theory_formula.specs.declared.signs.Signs.{Signs}
+use Rattle.theory_formula.specs.Signs.{meet}
+use Rattle.theory_polynomial.specs.Terms.{Monomial}
+use Rattle.theory_formula.specs.Formula.{Formula}
 use Rattle.theory_elimination.specs.SameFormula.{is_same_poly}
 use Rattle.theory_elimination.specs.Facts.{Fact, Facts, with_fact}
-use Rattle.theory_elimination.specs.Simplified.{Part, told, condition, other, as_part, put_together, with_condition}
+use Rattle.theory_elimination.specs.Simplified.{Part, settled, condition, other, as_part, put_together, with_condition}
 use Rattle.theory_elimination.proofs.SameLaws.{same_poly}
 use Rattle.theory_signs.specs.Condition.{Condition}
 use Rattle.theory_simplify.specs.declared.drafts.Draft as lent
@@ -56,8 +56,8 @@ in_front all P S m ps i T found rest =
 pub put_at_place : (all : Bool) (P : List Monomial) (S : Signs) (ps : Parts) (i : ℕ) (T : Signs) → held_at P ps ≡ Some (i, T)
     → with_condition all P S ps ≡ met_at all P S ps i T
 put_at_place all P S [] i T h = absurd (let e : None ≡ Some (i, T) = h in cc)
-put_at_place all P S (told b ∷ ps) i T h =
-    in_front all P S (told b) ps i T (later (held_at P ps) i T h) (λ j e. put_at_place all P S ps j T e)
+put_at_place all P S (settled b ∷ ps) i T h =
+    in_front all P S (settled b) ps i T (later (held_at P ps) i T h) (λ j e. put_at_place all P S ps j T e)
 put_at_place all P S (other F ∷ ps) i T h =
     in_front all P S (other F) ps i T (later (held_at P ps) i T h) (λ j e. put_at_place all P S ps j T e)
 put_at_place all P S (condition Q U ∷ ps) i T h =
@@ -73,7 +73,7 @@ put_at_place all P S (condition Q U ∷ ps) i T h =
 
 pub put_at_end : (all : Bool) (P : List Monomial) (S : Signs) (ps : Parts) → held_at P ps ≡ None → with_condition all P S ps ≡ Some (ps ++ condition P S ∷ [])
 put_at_end all P S [] h = refl
-put_at_end all P S (told b ∷ ps) h = ap (option_map (λ qs. told b ∷ qs)) (put_at_end all P S ps (later_none (held_at P ps) h))
+put_at_end all P S (settled b ∷ ps) h = ap (option_map (λ qs. settled b ∷ qs)) (put_at_end all P S ps (later_none (held_at P ps) h))
 put_at_end all P S (other F ∷ ps) h = ap (option_map (λ qs. other F ∷ qs)) (put_at_end all P S ps (later_none (held_at P ps) h))
 put_at_end all P S (condition Q U ∷ ps) h =
     elim (is_same_poly Q P) as (λ b. first_or (if b then Some U else None) (held_at P ps) ≡ None

@@ -2,12 +2,12 @@
 use Rattle.std.proofs.Common.{◌≡◌, Bool, true, false, List, [], ◌∷◌, ◌++◌, map, Option, None, Some, option_map, option_and_then, refl, sym, ap, ap₂, ◌∙◌, if◌then◌else◌}
 use Rattle.std.specs.Bool.{beq}
 use Rattle.std.proofs.lemmas.List.{map-append}
-use Rattle.theory_method.specs.declared.signs.Signs.{Signs}
-use Rattle.theory_method.specs.Terms.{Monomial}
-use Rattle.theory_method.specs.Formula.{Formula, Formulas, always, never, atom, conjunction, disjunction, none, more}
+use Rattle.theory_formula.specs.declared.signs.Signs.{Signs}
+use Rattle.theory_polynomial.specs.Terms.{Monomial}
+use Rattle.theory_formula.specs.Formula.{Formula, Formulas, always, never, atom, conjunction, disjunction, none, more}
 use Rattle.theory_elimination.specs.SameFormula.{is_same_poly}
 use Rattle.theory_elimination.specs.Facts.{Facts, judged, with_fact}
-use Rattle.theory_elimination.specs.Simplified.{Part, Waiting, told, condition, other, put_together, with_condition, gathered_behind, undecided, gathered, by_facts, as_judged, with_conditions, facts_within, left_open, parts_of, all_parts_of}
+use Rattle.theory_elimination.specs.Simplified.{Part, Waiting, settled, condition, other, put_together, with_condition, gathered_behind, undecided, gathered, by_facts, as_judged, with_conditions, facts_within, left_open, parts_of, all_parts_of}
 use Rattle.theory_simplify.specs.Parts.{waiting_part, waiting, flat_parts, all_flat_parts, open_parts}
 
 abbrev Parts : Type 0
@@ -26,7 +26,7 @@ met Q ps (Some R) = refl
 condition_waits : (all : Bool) (P : List Monomial) (S : Signs) (ps : Parts)
     → with_condition all P S (waiting ps) ≡ option_map waiting (with_condition all P S ps)
 condition_waits all P S [] = refl
-condition_waits all P S (told b ∷ ps) = ap (option_map (λ qs. told b ∷ qs)) (condition_waits all P S ps) ∙ front (told b) (with_condition all P S ps)
+condition_waits all P S (settled b ∷ ps) = ap (option_map (λ qs. settled b ∷ qs)) (condition_waits all P S ps) ∙ front (settled b) (with_condition all P S ps)
 condition_waits all P S (other F ∷ ps) =
     ap (option_map (λ qs. waiting_part (other F) ∷ qs)) (condition_waits all P S ps) ∙ front (other F) (with_condition all P S ps)
 condition_waits all P S (condition Q T ∷ ps) =
@@ -46,9 +46,9 @@ then_waits (Some ps) f g h = h ps
 
 behind_waits : (all : Bool) (done ps : Parts) → gathered_behind all (waiting done) (waiting ps) ≡ option_map waiting (gathered_behind all done ps)
 behind_waits all done [] = refl
-behind_waits all done (told b ∷ ps) =
-    ap (λ (qs : List Waiting). gathered_behind all qs (waiting ps)) (sym (map-append waiting_part done (told b ∷ [])))
-    ∙ behind_waits all (done ++ told b ∷ []) ps
+behind_waits all done (settled b ∷ ps) =
+    ap (λ (qs : List Waiting). gathered_behind all qs (waiting ps)) (sym (map-append waiting_part done (settled b ∷ [])))
+    ∙ behind_waits all (done ++ settled b ∷ []) ps
 behind_waits all done (other F ∷ ps) =
     ap (λ (qs : List Waiting). gathered_behind all qs (waiting ps)) (sym (map-append waiting_part done (other F ∷ [])))
     ∙ behind_waits all (done ++ other F ∷ []) ps
@@ -58,7 +58,7 @@ behind_waits all done (condition P S ∷ ps) =
 
 undecided_waits : (all : Bool) (ps : Parts) → undecided all (waiting ps) ≡ option_map waiting (undecided all ps)
 undecided_waits all [] = refl
-undecided_waits all (told b ∷ ps) =
+undecided_waits all (settled b ∷ ps) =
     elim (beq b all) as (λ c. (if c then undecided all (waiting ps) else None) ≡ option_map waiting (if c then undecided all ps else None)) [
       | true ↦ undecided_waits all ps
       | false ↦ refl
@@ -77,7 +77,7 @@ judged_waits P S (Some b) = refl
 
 facts_wait : (K : Facts) (ps : Parts) → map (by_facts K) (waiting ps) ≡ waiting (map (by_facts K) ps)
 facts_wait K [] = refl
-facts_wait K (told b ∷ ps) = ap (λ (qs : List Waiting). told b ∷ qs) (facts_wait K ps)
+facts_wait K (settled b ∷ ps) = ap (λ (qs : List Waiting). settled b ∷ qs) (facts_wait K ps)
 facts_wait K (condition P S ∷ ps) = ap₂ (λ (m : Part (Facts → Formula)) (qs : List Waiting). m ∷ qs) (judged_waits P S (judged K P S)) (facts_wait K ps)
 facts_wait K (other F ∷ ps) = ap (λ (qs : List Waiting). waiting_part (other F) ∷ qs) (facts_wait K ps)
 
@@ -89,7 +89,7 @@ open_waits all K ps =
 
 conditions_wait : (ps : Parts) (K : Facts) → with_conditions (waiting ps) K ≡ with_conditions ps K
 conditions_wait [] K = refl
-conditions_wait (told b ∷ ps) K = conditions_wait ps K
+conditions_wait (settled b ∷ ps) K = conditions_wait ps K
 conditions_wait (condition P S ∷ ps) K = conditions_wait ps (with_fact P S K)
 conditions_wait (other F ∷ ps) K = conditions_wait ps K
 

@@ -1,13 +1,13 @@
 -- How many lists stand in a formula: it falls at each level, and no step raises it.
 use Rattle.std.proofs.Common.{◌≡◌, ℕ, suc, ◌+◌, ◌≤◌, Bool, true, false, List, [], ◌∷◌, ◌++◌, map, Option, None, Some, Result, Ok, Err, option_map, option_and_then, refl, sym, ap, ap₂, ◌∙◌, subst, arith, if◌then◌else◌}
 use Rattle.std.specs.Bool.{beq}
-use Rattle.theory_method.specs.declared.signs.Signs.{Signs}
-use Rattle.theory_method.specs.Terms.{Monomial}
-use Rattle.theory_method.specs.Formula as plain
-use Rattle.theory_method.specs.Formula.{always, never, atom, conjunction, disjunction, none, more, formulas_from}
+use Rattle.theory_formula.specs.declared.signs.Signs.{Signs}
+use Rattle.theory_polynomial.specs.Terms.{Monomial}
+use Rattle.theory_formula.specs.Formula as plain
+use Rattle.theory_formula.specs.Formula.{always, never, atom, conjunction, disjunction, none, more, formulas_from}
 use Rattle.theory_elimination.specs.SameFormula.{is_same_poly}
 use Rattle.theory_elimination.specs.Facts.{Facts, judged}
-use Rattle.theory_elimination.specs.Simplified.{Part, told, condition, other, as_part, put_together, with_condition, gathered_behind, undecided, gathered, by_facts, as_judged}
+use Rattle.theory_elimination.specs.Simplified.{Part, settled, condition, other, as_part, put_together, with_condition, gathered_behind, undecided, gathered, by_facts, as_judged}
 use Rattle.theory_simplify.specs.declared.drafts.Draft as lent
 use Rattle.theory_simplify.specs.Drafts.{draft_of}
 use Rattle.theory_simplify.specs.Parts.{parts_of, flat_parts, all_flat_parts, open_parts, opened}
@@ -28,7 +28,7 @@ abbrev mutual
   weights (more F Fs) = weight F + weights Fs
 
 abbrev pub part_weight : Part plain.Formula → ℕ
-part_weight (told b) = 0
+part_weight (settled b) = 0
 part_weight (condition P S) = 0
 part_weight (other F) = weight F
 
@@ -115,7 +115,7 @@ met Q T ps (Some R) = omega arith
 
 condition_weight : (all : Bool) (P : List Monomial) (S : Signs) (ps : Parts) → IsAtMost (with_condition all P S ps) (parts_weight ps)
 condition_weight all P S [] = omega arith
-condition_weight all P S (told b ∷ ps) = in_front (told b) (with_condition all P S ps) (parts_weight ps) (condition_weight all P S ps)
+condition_weight all P S (settled b ∷ ps) = in_front (settled b) (with_condition all P S ps) (parts_weight ps) (condition_weight all P S ps)
 condition_weight all P S (other F ∷ ps) = in_front (other F) (with_condition all P S ps) (parts_weight ps) (condition_weight all P S ps)
 condition_weight all P S (condition Q T ∷ ps) =
     elim (is_same_poly Q P) as (λ b. IsAtMost (if b then option_map (λ R. condition Q R ∷ ps) (put_together all T S)
@@ -132,10 +132,10 @@ after_put (Some qs) f n k h step =
 
 behind_weight : (all : Bool) (done ps : Parts) → IsAtMost (gathered_behind all done ps) (parts_weight done + parts_weight ps)
 behind_weight all done [] = omega arith
-behind_weight all done (told b ∷ ps) =
-    weaker (gathered_behind all (done ++ told b ∷ []) ps) (parts_weight (done ++ told b ∷ []) + parts_weight ps)
-    (parts_weight done + parts_weight (told b ∷ ps))
-    (let both = weight_append done (told b ∷ []) in omega arith) (behind_weight all (done ++ told b ∷ []) ps)
+behind_weight all done (settled b ∷ ps) =
+    weaker (gathered_behind all (done ++ settled b ∷ []) ps) (parts_weight (done ++ settled b ∷ []) + parts_weight ps)
+    (parts_weight done + parts_weight (settled b ∷ ps))
+    (let both = weight_append done (settled b ∷ []) in omega arith) (behind_weight all (done ++ settled b ∷ []) ps)
 behind_weight all done (other F ∷ ps) =
     weaker (gathered_behind all (done ++ other F ∷ []) ps) (parts_weight (done ++ other F ∷ []) + parts_weight ps)
     (parts_weight done + parts_weight (other F ∷ ps))
@@ -148,9 +148,9 @@ behind_weight all done (condition P S ∷ ps) =
 
 undecided_weight : (all : Bool) (ps : Parts) → IsAtMost (undecided all ps) (parts_weight ps)
 undecided_weight all [] = omega arith
-undecided_weight all (told b ∷ ps) =
-    elim (beq b all) as (λ c. IsAtMost (if c then undecided all ps else None) (parts_weight (told b ∷ ps))) [
-      | true ↦ weaker (undecided all ps) (parts_weight ps) (parts_weight (told b ∷ ps)) (omega arith) (undecided_weight all ps)
+undecided_weight all (settled b ∷ ps) =
+    elim (beq b all) as (λ c. IsAtMost (if c then undecided all ps else None) (parts_weight (settled b ∷ ps))) [
+      | true ↦ weaker (undecided all ps) (parts_weight ps) (parts_weight (settled b ∷ ps)) (omega arith) (undecided_weight all ps)
       | false ↦ tt
     ]
 undecided_weight all (condition P S ∷ ps) = in_front (condition P S) (undecided all ps) (parts_weight ps) (undecided_weight all ps)
@@ -162,7 +162,7 @@ judged_weight P S (Some b) = refl
 
 facts_weight : (K : Facts) (ps : Parts) → parts_weight (map (by_facts K) ps) ≡ parts_weight ps
 facts_weight K [] = refl
-facts_weight K (told b ∷ ps) = ap (λ (n : ℕ). 0 + n) (facts_weight K ps)
+facts_weight K (settled b ∷ ps) = ap (λ (n : ℕ). 0 + n) (facts_weight K ps)
 facts_weight K (condition P S ∷ ps) = ap₂ ◌+◌ (judged_weight P S (judged K P S)) (facts_weight K ps)
 facts_weight K (other F ∷ ps) = ap (λ (n : ℕ). weight F + n) (facts_weight K ps)
 

@@ -1,5 +1,5 @@
 -- The plain trees that drafts stand for.
-use Rattle.theory_method.specs.Formula as plain
+use Rattle.theory_formula.specs.Formula as plain
 use Rattle.theory_simplify.specs.declared.drafts.Draft.{Draft}
 use Rattle.theory_simplify.specs.declared.drafts.Draft.TheOpen.{Draft-F}
 use Rattle.theory_simplify.specs.declared.drafts.Draft.TheFolds.{fold-Draft}

@@ -1,19 +1,11 @@
--- The numbers by which different polynomials and formulas are told apart at once.
-use Rattle.std.specs.Prelude.{ℕ, List, [], ◌∷◌, ◌++◌}
+-- The numbers by which different formulas are told apart at once.
+use Rattle.std.specs.Prelude.{ℕ}
 use Rattle.std.specs.List.{fold}
 use Rattle.std.specs.Hash as hashed
 use Rattle.std.specs.Hash.FoldHasher as folding
 use Rattle.std.specs.declared.hash.FoldHasher.{FoldHasher}
-use Rattle.theory_method.specs.Terms.{Monomial}
-use Rattle.theory_method.specs.Formula.{Formula, Formulas, always, never, atom, conjunction, disjunction, none, more}
-
--- a hasher that was fed a term: its coefficient, then its powers
-abbrev pub with_term : FoldHasher → Monomial → FoldHasher
-with_term hasher t = fold folding.write hasher (hashed.i64 t.coefficient ++ t.powers ∷ [])
-
--- the hash of a polynomial: its terms in order
-abbrev pub hash_of : List Monomial → ℕ
-hash_of P = folding.finish (fold with_term folding.initial P)
+use Rattle.theory_poly.specs.Hashes.{hash_of}
+use Rattle.theory_formula.specs.Formula.{Formula, Formulas, always, never, atom, conjunction, disjunction, none, more}
 
 -- what tells formulas apart at first sight: the kind, and of an atom the hash of its polynomial
 abbrev pub head_of : Formula → ℕ

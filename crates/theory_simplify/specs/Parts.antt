@@ -3,13 +3,13 @@ use Rattle.std.specs.Prelude.{◌≡◌, ℕ, suc, Bool, true, false, List, [], 
 use Rattle.std.specs.declared.vec.Vec.{Vec}
 use Rattle.std.specs.Global.{Global}
 use Rattle.std.specs.Option.{option_map, option_and_then}
-use Rattle.theory_method.specs.declared.signs.Signs.{Signs}
-use Rattle.theory_method.specs.Terms.{Monomial}
-use Rattle.theory_method.specs.Formula as plain
-use Rattle.theory_method.specs.Formula.{conjunction, disjunction, none, more}
+use Rattle.theory_formula.specs.declared.signs.Signs.{Signs}
+use Rattle.theory_polynomial.specs.Terms.{Monomial}
+use Rattle.theory_formula.specs.Formula as plain
+use Rattle.theory_formula.specs.Formula.{conjunction, disjunction, none, more}
 use Rattle.theory_elimination.specs.SameFormula.{is_same_poly}
 use Rattle.theory_elimination.specs.Facts.{Fact, Facts, judged}
-use Rattle.theory_elimination.specs.Simplified.{Part, Waiting, told, condition, other, as_part, by_facts, undecided, gathered, simplified_under, simplified_list, all_parts_of}
+use Rattle.theory_elimination.specs.Simplified.{Part, Waiting, settled, condition, other, as_part, by_facts, undecided, gathered, simplified_under, simplified_list, all_parts_of}
 use Rattle.theory_signs.specs.Condition.{Condition}
 use Rattle.theory_simplify.specs.declared.drafts.Draft.{Draft}
 use Rattle.theory_simplify.specs.Drafts.{draft_of}
@@ -36,7 +36,7 @@ facts_of known = map fact_of known
 
 -- a list waits for facts
 abbrev pub waiting_part : Part plain.Formula → Waiting
-waiting_part (told b) = told b
+waiting_part (settled b) = settled b
 waiting_part (condition P S) = condition P S
 waiting_part (other F) = other (λ K. simplified_under K F)
 
@@ -68,7 +68,7 @@ open_parts all K ps = option_and_then (λ qs. undecided all (map (by_facts K) qs
 -- the set of an atom of the polynomial
 abbrev pub condition_on : List Monomial → Part plain.Formula → Option Signs
 condition_on P (condition Q S) = if is_same_poly Q P then Some S else None
-condition_on P (told b) = None
+condition_on P (settled b) = None
 condition_on P (other F) = None
 
 -- a set at the first place, or what is found at a later one
@@ -86,15 +86,15 @@ abbrev pub known_at : List Monomial → Facts → Option (ℕ × Signs)
 known_at P [] = None
 known_at P (f ∷ K) = first_or (if is_same_poly f.poly P then Some f.signs else None) (known_at P K)
 
--- the truth of a decided member
-abbrev pub truth_told : Part plain.Formula → Option Bool
-truth_told (told b) = Some b
-truth_told (condition P S) = None
-truth_told (other F) = None
+-- the truth of a settled member
+abbrev pub settled_truth : Part plain.Formula → Option Bool
+settled_truth (settled b) = Some b
+settled_truth (condition P S) = None
+settled_truth (other F) = None
 
 -- what the facts say of a member
 abbrev pub judged_part : Facts → Part plain.Formula → Option Bool
-judged_part K (told b) = None
+judged_part K (settled b) = None
 judged_part K (condition P S) = judged K P S
 judged_part K (other F) = None
 

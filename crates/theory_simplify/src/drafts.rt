@@ -1,5 +1,5 @@
 ghost use Rattle.std.specs.Prelude.{◌≡◌, IfOk, map};
-ghost use Rattle.theory_method.specs.SignCondition.{decided};
+ghost use Rattle.theory_formula.specs.SignCondition.{decided};
 ghost use Rattle.theory_signs.specs.Plain.{formula_of};
 ghost use Rattle.theory_simplify.specs.Drafts.{draft_of};
 

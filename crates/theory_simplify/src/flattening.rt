@@ -1,5 +1,5 @@
 ghost use Rattle.std.specs.Prelude.{◌≡◌, ◌++◌, IfOk, OnOk, map};
-ghost use Rattle.theory_method.specs.Formula.{formulas_from};
+ghost use Rattle.theory_formula.specs.Formula.{formulas_from};
 ghost use Rattle.theory_elimination.specs.Simplified.{spliced};
 ghost use Rattle.theory_simplify.specs.Drafts.{draft_of};
 ghost use Rattle.theory_simplify.specs.Parts.{parts_of, all_flat_parts, IsOpened};

@@ -1,6 +1,6 @@
 ghost use Rattle.std.specs.Prelude.{◌≡◌, [], IfOk, map};
 ghost use Rattle.theory_elimination.specs.Simplified.{put_together, with_condition, gathered_behind, undecided, gathered, by_facts};
-ghost use Rattle.theory_simplify.specs.Parts.{part_of, parts_of, facts_of, open_parts, condition_on, held_at, truth_told, judged_part, AreParts, IsPutIn};
+ghost use Rattle.theory_simplify.specs.Parts.{part_of, parts_of, facts_of, open_parts, condition_on, held_at, settled_truth, judged_part, AreParts, IsPutIn};
 
 use crate::drafts::{Draft, Drafts, decision};
 use crate::facts::judged;
@@ -160,7 +160,7 @@ fn undecided<'a>(
 {
     let mut open = Vec::new(alloc);
     for member in members {
-        match truth_told(&member) {
+        match settled_truth(&member) {
             Some(truth) => {
                 if truth != all {
                     return Ok(None);
@@ -172,9 +172,9 @@ fn undecided<'a>(
     Ok(Some(open))
 }
 
-/// The truth of a decided member.
-fn truth_told(member: &Draft<'_>) -> Option<bool>
-    ensures { result ≡ truth_told (part_of member.now) }
+/// The truth of a settled member.
+fn settled_truth(member: &Draft<'_>) -> Option<bool>
+    ensures { result ≡ settled_truth (part_of member.now) }
 {
     match member {
         Draft::True => Some(true),

@@ -10,12 +10,7 @@ mod flattening;
 mod gathering;
 mod hashes;
 mod lent;
-mod polynomials;
-#[cfg(test)]
-mod rows;
 mod sameness;
 mod simplification;
-#[cfg(test)]
-mod tests;
 
 pub use simplification::simplify;

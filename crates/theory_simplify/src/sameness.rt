@@ -1,5 +1,5 @@
 ghost use Rattle.std.specs.Prelude.{◌≡◌, map};
-ghost use Rattle.theory_method.specs.Formula.{formulas_from};
+ghost use Rattle.theory_formula.specs.Formula.{formulas_from};
 ghost use Rattle.theory_elimination.specs.SameFormula.{is_same_set, is_same, are_same};
 ghost use Rattle.theory_simplify.specs.Drafts.{draft_of};
 

@@ -1,6 +1,6 @@
 ghost use Rattle.std.specs.Prelude.{◌≡◌, IfOk, map};
-ghost use Rattle.theory_method.specs.PolynomialValue.{Values};
-ghost use Rattle.theory_method.specs.Formula.{truth_at, formulas_from};
+ghost use Rattle.theory_polynomial.specs.PolynomialValue.{Values};
+ghost use Rattle.theory_formula.specs.Formula.{truth_at, formulas_from};
 ghost use Rattle.theory_elimination.specs.Simplified.{simplified, simplified_list, all_parts_of, members_under};
 ghost use Rattle.theory_signs.specs.Plain.{formula_of};
 ghost use Rattle.theory_simplify.specs.Drafts.{draft_of};

@@ -3,10 +3,11 @@ use Rattle.std.proofs.Common.{◌≡◌, ℕ, ◌<◌, arith, true, List, sym, a
 use Rattle.std.specs.Prelude.{nat_lt}
 use Rattle.theory_points.specs.declared.limit.Limit.{Limit}
 use Rattle.theory_points.specs.declared.limit.Limit.TheVariants.{Wide, Memory}
-use Rattle.theory_method.specs.declared.signs.Signs.{Signs}
-use Rattle.theory_method.specs.Polynomial.{Monomial, IsPolynomial, IsLinearIn, IsSplit, degree_in}
-use Rattle.theory_method.specs.Formula as plain
-use Rattle.theory_elimination.specs.TestPoint.{TestPoint, infinity, root, before, slope_in, base_in, holds_symbol}
+use Rattle.theory_formula.specs.declared.signs.Signs.{Signs}
+use Rattle.theory_polynomial.specs.Polynomial.{Monomial, IsPolynomial, IsLinearIn, IsSplit, degree_in}
+use Rattle.theory_formula.specs.Formula as plain
+use Rattle.theory_elimination.specs.TestPoint.{TestPoint, infinity, root, before, holds_symbol}
+use Rattle.theory_polynomial.specs.PolynomialValue.{slope_in, base_in}
 use Rattle.theory_elimination.specs.Substituted.{IsLineAt}
 use Rattle.theory_elimination.specs.Widths.{IsWideAt}
 use Rattle.theory_poly.specs.Answers.{WideWhere}

@@ -4,11 +4,12 @@ use Rattle.std.specs.Prelude.{nat_lt, if◌then◌else◌}
 use Rattle.std.specs.List.{list_any}
 use Rattle.std.proofs.lemmas.List.{append_assoc, drop_all}
 use Rattle.std.proofs.Math.Seq.{drop-cons}
-use Rattle.theory_method.specs.declared.signs.Signs.{Signs}
-use Rattle.theory_method.specs.Polynomial.{Monomial, degree_in}
-use Rattle.theory_method.specs.Formula.{formulas_from, EachAtomOfAll}
-use Rattle.theory_method.specs.FormulaAtoms.{atoms_of, atoms_of_all}
-use Rattle.theory_elimination.specs.TestPoint.{TestPoint, is_constant, slope_in, base_in, is_same_point, ends_by_slope, ends_of_atom, ends_of_atoms}
+use Rattle.theory_formula.specs.declared.signs.Signs.{Signs}
+use Rattle.theory_polynomial.specs.Polynomial.{Monomial, degree_in}
+use Rattle.theory_formula.specs.Formula.{formulas_from, EachAtomOfAll}
+use Rattle.theory_formula.specs.FormulaAtoms.{atoms_of, atoms_of_all}
+use Rattle.theory_elimination.specs.TestPoint.{TestPoint, is_constant, is_same_point, ends_by_slope, ends_of_atom, ends_of_atoms}
+use Rattle.theory_polynomial.specs.PolynomialValue.{slope_in, base_in}
 use Rattle.theory_elimination.specs.Elimination.{IsLinearAtom}
 use Rattle.theory_signs.specs.declared.formula.Formula as made
 use Rattle.theory_signs.specs.Plain.{formula_of}

@@ -2,12 +2,13 @@
 use Rattle.std.proofs.Common.{◌≡◌, ℕ, zero, suc, ◌+◌, ◌<◌, Bool, true, false, List, [], ◌∷◌, ◌++◌, length, get_or, take, drop, not, refl, sym, ap, ap₂, ◌∙◌, subst, arith, Option, None, Some}
 use Rattle.std.specs.Prelude.{◌||◌}
 use Rattle.std.proofs.Math.Seq.{take-suc, drop-cons}
-use Rattle.theory_method.specs.Polynomial.{Monomial}
-use Rattle.theory_method.specs.Formula.{Formula}
-use Rattle.theory_elimination.specs.TestPoint.{slope_in, is_constant}
+use Rattle.theory_polynomial.specs.Polynomial.{Monomial}
+use Rattle.theory_formula.specs.Formula.{Formula}
+use Rattle.theory_elimination.specs.TestPoint.{is_constant}
+use Rattle.theory_polynomial.specs.PolynomialValue.{slope_in}
 use Rattle.theory_elimination.specs.Branches.{Taken, equation_if, equation_of, if_plain, taken_behind, taken_at, or_else}
 use Rattle.theory_subst.specs.Equations.{equation_with, without, IsLine, ArePartsOf, IsFirst}
-use Rattle.theory_subst.specs.declared.top_equation.Found.{Found}
+use Rattle.theory_subst.specs.declared.top_equation.TopEquation.{TopEquation}
 
 pub wanted_parts : (plain : Bool) (x : ℕ) (P a b : List Monomial) (F : Formula) → equation_of x F ≡ equation_if true P → IsLine x P a b
     → true ≡ (not plain || is_constant a) → ArePartsOf x (equation_with plain x F) (Some (a, b))
@@ -72,12 +73,12 @@ sought_on plain x Fs i F h is before none =
           ∙ before.rest;
     }
 
-found_parts : (x : ℕ) (Fs : List Formula) (f : Found) (e : Option (List Monomial)) (next : Option Taken) → f.place < length Fs
+found_parts : (x : ℕ) (Fs : List Formula) (f : TopEquation) (e : Option (List Monomial)) (next : Option Taken) → f.place < length Fs
     → ArePartsOf x e (Some (f.slope, f.base)) → IsFirst x Fs (taken_at e (without f.place Fs) next) (Some f)
 found_parts x Fs f None next h parts = absurd parts
 found_parts x Fs f (Some P) next h parts = record { within = h; line = parts; others = refl }
 
-pub found_at : (plain : Bool) (x : ℕ) (Fs : List Formula) (f : Found) (F : Formula) → f.place < length Fs → F ≡ get_or Fs f.place F
+pub found_at : (plain : Bool) (x : ℕ) (Fs : List Formula) (f : TopEquation) (F : Formula) → f.place < length Fs → F ≡ get_or Fs f.place F
     → IsSought (equation_with plain x) Fs f.place → ArePartsOf x (equation_with plain x F) (Some (f.slope, f.base))
     → IsFirst x Fs (taken_behind (equation_with plain x) [] Fs) (Some f)
 found_at plain x Fs f F h is before parts =

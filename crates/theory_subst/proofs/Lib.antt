@@ -7,5 +7,6 @@ pub mod EndLemmas
 pub mod NewPoints
 pub mod EquationLemmas
 pub mod MemberLemmas
+pub mod OthersLemmas
 pub mod PlanLemmas
 pub mod BranchLemmas

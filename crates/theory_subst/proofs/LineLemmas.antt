@@ -1,6 +1,6 @@
 -- Slope and base of an atom, and whether the slope has symbols.
 use Rattle.std.proofs.Common.{ℕ, ◌<◌, List}
-use Rattle.theory_method.specs.Polynomial.{Monomial, IsPolynomial, IsLinearIn, IsSplit}
+use Rattle.theory_polynomial.specs.Polynomial.{Monomial, IsPolynomial, IsLinearIn, IsSplit}
 use Rattle.theory_subst.specs.Equations.{IsLine}
 use Rattle.theory_subst.proofs.SplitLemmas.{split_is}
 

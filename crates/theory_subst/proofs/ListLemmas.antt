@@ -1,8 +1,8 @@
 -- A list of formulas at a test point, member by member.
 use Rattle.std.proofs.Common.{◌≡◌, ℕ, ◌+◌, ◌<◌, List, [], ◌∷◌, ◌++◌, length, map, drop, get_or, refl, sym, ap, ◌∙◌, subst, inr, ⊎_elim}
 use Rattle.std.proofs.lemmas.List.{at_drop_more, append_assoc, map-append}
-use Rattle.theory_method.specs.Formula as plain
-use Rattle.theory_method.specs.Formula.{EachAtomOfAll, formulas_from}
+use Rattle.theory_formula.specs.Formula as plain
+use Rattle.theory_formula.specs.Formula.{EachAtomOfAll, formulas_from}
 use Rattle.theory_elimination.specs.TestPoint.{TestPoint, infinity, root, before}
 use Rattle.theory_elimination.specs.Elimination.{IsLinearAtom}
 use Rattle.theory_elimination.specs.Substituted.{IsFormulaAt, AreFormulasAt}
@@ -12,12 +12,12 @@ use Rattle.theory_signs.specs.Plain.{formula_of}
 use Rattle.theory_subst.specs.Lines.{IsWideAmong}
 
 -- a list is wide where its members behind the first are, and only there if the first isn't
-wide_others : (x : ℕ) (p : TestPoint) (F : plain.Formula) (Fs : plain.Formulas) → IsWideAmong x p Fs → IsWideAmong x p (plain.more F Fs)
+pub wide_others : (x : ℕ) (p : TestPoint) (F : plain.Formula) (Fs : plain.Formulas) → IsWideAmong x p Fs → IsWideAmong x p (plain.more F Fs)
 wide_others x infinity F Fs h = h
 wide_others x (root a b s) F Fs h = inr h
 wide_others x (before a b s) F Fs h = inr h
 
-wide_behind : (x : ℕ) (p : TestPoint) (F : plain.Formula) (Fs : plain.Formulas) → ¬ IsWideAt x p F → IsWideAmong x p (plain.more F Fs) → IsWideAmong x p Fs
+pub wide_behind : (x : ℕ) (p : TestPoint) (F : plain.Formula) (Fs : plain.Formulas) → ¬ IsWideAt x p F → IsWideAmong x p (plain.more F Fs) → IsWideAmong x p Fs
 wide_behind x infinity F Fs fits h = h
 wide_behind x (root a b s) F Fs fits h = ⊎_elim (λ (y : IsWideAt x (root a b s) F). absurd (fits y)) (λ (y : IsWideAmong x (root a b s) Fs). y) h
 wide_behind x (before a b s) F Fs fits h = ⊎_elim (λ (y : IsWideAt x (before a b s) F). absurd (fits y)) (λ (y : IsWideAmong x (before a b s) Fs). y) h

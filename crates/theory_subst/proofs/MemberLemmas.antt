@@ -2,8 +2,8 @@
 use Rattle.std.proofs.Common.{◌≡◌, ℕ, zero, suc, ◌+◌, ◌<◌, ◌≤◌, Bool, List, [], ◌∷◌, ◌++◌, length, map, get_or, take, drop, refl, sym, ap, ap₂, ◌∙◌, subst, arith, None, Some}
 use Rattle.std.proofs.lemmas.List.{map-append, length-map, length-take-le, take_all}
 use Rattle.std.proofs.Math.Seq.{take-suc}
-use Rattle.theory_method.specs.Polynomial.{IsLinearIn}
-use Rattle.theory_method.specs.Formula as plain
+use Rattle.theory_polynomial.specs.Polynomial.{IsLinearIn}
+use Rattle.theory_formula.specs.Formula as plain
 use Rattle.theory_elimination.specs.Branches.{equation_of, equation_if, taken_behind}
 use Rattle.theory_elimination.specs.Elimination.{IsLinear}
 use Rattle.theory_signs.specs.declared.atom.Atom.{Atom}
@@ -11,7 +11,7 @@ use Rattle.theory_signs.specs.declared.formula.Formula.{Formula, Formula-F, fold
 use Rattle.theory_signs.specs.declared.formula.Formula.TheVariants as made
 use Rattle.theory_signs.specs.Plain.{formula_of, formula_step}
 use Rattle.theory_subst.specs.Equations.{without, equation_with, ArePartsOf, IsFirst}
-use Rattle.theory_subst.specs.declared.top_equation.Found.{Found}
+use Rattle.theory_subst.specs.declared.top_equation.TopEquation.{TopEquation}
 use Rattle.theory_subst.proofs.EndLemmas.{AreLinear, rest_from}
 use Rattle.theory_subst.proofs.EquationLemmas.{IsSought, without-kept, without-left, sought_on, found_at}
 
@@ -33,14 +33,14 @@ tree_at zero (n ∷ ms) m h = ap formula_of h
 tree_at (suc i) (n ∷ ms) m h = tree_at i ms m h
 
 -- copies of all but one
-taken_more : (i : ℕ) (ms : List Formula) (m : Formula) → i < length ms → m ≡ get_or ms i m
+pub taken_more : (i : ℕ) (ms : List Formula) (m : Formula) → i < length ms → m ≡ get_or ms i m
     → map formula_of (take (i + 1) ms) ≡ map formula_of (take i ms) ++ formula_of m ∷ []
 taken_more i ms m h is =
     let next : i + 1 ≡ suc i = omega arith in
     ap (λ n. map formula_of (take n ms)) next ∙ ap (map formula_of) (take-suc ms i m h ∙ ap (λ n. take i ms ++ n ∷ []) (sym is))
     ∙ map-append formula_of (take i ms) (m ∷ [])
 
-taken_length : (i : ℕ) (ms : List Formula) → i < length ms → length (map formula_of (take i ms)) ≡ i
+pub taken_length : (i : ℕ) (ms : List Formula) → i < length ms → length (map formula_of (take i ms)) ≡ i
 taken_length i ms h = length-map (take i ms) formula_of ∙ length-take-le i ms (omega (arith, h))
 
 pub others_grow : (k i : ℕ) (ms copies : List Formula) (m copy : Formula) → i < length ms → m ≡ get_or ms i m → (i ≡ k → ⊥)
@@ -75,7 +75,7 @@ left_on x plain ms i m h is before none = record {
       sought_on plain x (map formula_of ms) i (formula_of m) within (tree_at i ms m is) before.sought none;
 }
 
-pub found_member : (x : ℕ) (plain : Bool) (ms : List Formula) (f : Found) (m : Formula) → f.place < length ms → m ≡ get_or ms f.place m
+pub found_member : (x : ℕ) (plain : Bool) (ms : List Formula) (f : TopEquation) (m : Formula) → f.place < length ms → m ≡ get_or ms f.place m
     → IsLeft x plain ms f.place → ArePartsOf x (equation_with plain x (formula_of m)) (Some (f.slope, f.base))
     → IsFirst x (map formula_of ms) (taken_behind (equation_with plain x) [] (map formula_of ms)) (Some f)
 found_member x plain ms f m h is before parts =

@@ -7,12 +7,13 @@ use Rattle.std.proofs.lemmas.List.{append_assoc, append-nil}
 use Rattle.std.proofs.lemmas.List.Folds.{list_any-append}
 use Rattle.theory_meaning.specs.declared.words.Sign.{Sign}
 use Rattle.theory_meaning.specs.declared.words.Sign.TheVariants.{Minus, Zero, Plus}
-use Rattle.theory_method.specs.declared.signs.Signs.{Signs}
-use Rattle.theory_method.specs.declared.signs.Signs.TheVariants as set
-use Rattle.theory_method.specs.Polynomial.{Monomial}
-use Rattle.theory_method.specs.FormulaAtoms.{atoms_of}
-use Rattle.theory_method.specs.Formula.{Formula}
-use Rattle.theory_elimination.specs.TestPoint.{TestPoint, infinity, end_of, listed, is_constant, constant_sign, holds_symbol, slope_in, base_in, is_same_point, ends_by_slope, ends_of_atom, ends_of_atoms, first_points, test_points}
+use Rattle.theory_formula.specs.declared.signs.Signs.{Signs}
+use Rattle.theory_formula.specs.declared.signs.Signs.TheVariants as set
+use Rattle.theory_polynomial.specs.Polynomial.{Monomial}
+use Rattle.theory_formula.specs.FormulaAtoms.{atoms_of}
+use Rattle.theory_formula.specs.Formula.{Formula}
+use Rattle.theory_elimination.specs.TestPoint.{TestPoint, infinity, end_of, listed, is_constant, constant_sign, holds_symbol, is_same_point, ends_by_slope, ends_of_atom, ends_of_atoms, first_points, test_points}
+use Rattle.theory_polynomial.specs.PolynomialValue.{slope_in, base_in}
 use Rattle.theory_subst.specs.Points.{with_new}
 
 -- none of the points is infinity

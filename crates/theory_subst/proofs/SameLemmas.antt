@@ -4,7 +4,7 @@ use Rattle.std.specs.Prelude.{◌&&◌}
 use Rattle.std.specs.Ordering.{int_eq}
 use Rattle.std.specs.Str.{bytes_eq}
 use Rattle.std.proofs.lemmas.List.{drop_all}
-use Rattle.theory_method.specs.Polynomial.{Monomial}
+use Rattle.theory_polynomial.specs.Polynomial.{Monomial}
 use Rattle.theory_elimination.specs.SameFormula.{is_same_poly}
 
 none_of_three : (i j : Bool) → (i && j && false) ≡ false

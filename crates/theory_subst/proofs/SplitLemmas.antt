@@ -5,11 +5,10 @@ use Rattle.std.specs.Str.{bytes_eq}
 use Rattle.std.proofs.lemmas.Bool.{cases_Bool}
 use Rattle.std.proofs.lemmas.Int.{ints}
 use Rattle.std.proofs.Math.Bool.{and-false}
-use Rattle.theory_method.specs.Polynomial.{Monomial, monomial, AreSame, IsPolynomial, IsSplit, IsLinearIn, IsFreeOf, coefficient_at, exponent_of, product_of, powers_of_product, symbol_of, no_powers, sum_of}
-use Rattle.theory_method.specs.PolynomialValue.{part_of}
-use Rattle.theory_method.proofs.FixedOrder.{polynomial_unique}
-use Rattle.theory_method.proofs.CoefficientLaws.{same_turned}
-use Rattle.theory_elimination.specs.TestPoint.{slope_in, base_in}
+use Rattle.theory_polynomial.specs.Polynomial.{Monomial, monomial, AreSame, IsPolynomial, IsSplit, IsLinearIn, IsFreeOf, coefficient_at, exponent_of, product_of, powers_of_product, symbol_of, no_powers, sum_of}
+use Rattle.theory_polynomial.specs.PolynomialValue.{part_of, slope_in, base_in}
+use Rattle.theory_polynomial.proofs.FixedOrder.{polynomial_unique}
+use Rattle.theory_polynomial.proofs.CoefficientLaws.{same_turned}
 use Rattle.theory_elimination.proofs.PartLaws.{part_is_polynomial}
 
 eq_means : (m n : ℕ) → (m == n) ≡ true → m ≡ n

@@ -1,12 +1,10 @@
 -- What the calls for a branch answer.
 use Rattle.std.specs.Prelude.{◌≡◌, ℕ, ◌≤◌, List, length, Option, None, Some, slice_get}
-use Rattle.theory_method.specs.Formula as plain
-use Rattle.theory_elimination.specs.Branches.{Plan, Taken, IsBranch, IsWrittenBy, branch_plans, others_of}
+use Rattle.theory_formula.specs.Formula as plain
+use Rattle.theory_elimination.specs.Branches.{Plan, IsBranch, IsWrittenBy, branch_plans}
 use Rattle.theory_elimination.specs.Widths.{IsWidePlan}
 use Rattle.theory_signs.specs.declared.formula.Formula.{Formula}
 use Rattle.theory_signs.specs.Plain.{formula_of}
-use Rattle.theory_subst.specs.Equations.{IsLine}
-use Rattle.theory_subst.specs.declared.top_equation.TopEquation.{TopEquation}
 
 -- the k-th branch, and None exactly past the last
 abbrev pub IsKthBranch : ℕ → plain.Formula → ℕ → Option Formula → Type 0
@@ -21,14 +19,3 @@ IsWrittenByKth x plans k None = length plans ≤ k
 -- some cross product of that branch passes a limit
 abbrev pub IsWideKth : ℕ → List Plan → ℕ → Type 0
 IsWideKth x plans k = (plan : Plan) × (slice_get plans k ≡ Some plan) × IsWidePlan x plan
-
--- an equation by its slope and base, and the other members together
-pub record IsEquation (x : ℕ) (t : Taken) (e : TopEquation) : Type 0 where
-  pub line : IsLine x t.poly e.slope e.base
-  pub others : formula_of e.others ≡ others_of t.others
-
--- the equation that is taken, if one is
-abbrev pub IsTopEquation : ℕ → Option Taken → Option TopEquation → Type 0
-IsTopEquation x None None = Unit {0}
-IsTopEquation x (Some t) (Some e) = IsEquation x t e
-IsTopEquation x _ _ = ⊥

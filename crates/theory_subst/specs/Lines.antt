@@ -1,11 +1,11 @@
 -- Words for a line at a test point, and for lists of formulas there.
 use Rattle.std.specs.Prelude.{◌≡◌, ℕ, List}
-use Rattle.theory_method.specs.declared.signs.Signs.{Signs}
-use Rattle.theory_method.specs.declared.signs.Signs.TheVariants as set
-use Rattle.theory_method.specs.Signs.{without_zero}
-use Rattle.theory_method.specs.Polynomial.{Monomial, cross_of, IsBeyondDivided}
-use Rattle.theory_method.specs.Formula.{Formula, Formulas}
-use Rattle.theory_method.specs.SignCondition.{IsAtomOf}
+use Rattle.theory_formula.specs.declared.signs.Signs.{Signs}
+use Rattle.theory_formula.specs.declared.signs.Signs.TheVariants as set
+use Rattle.theory_formula.specs.Signs.{without_zero}
+use Rattle.theory_polynomial.specs.Polynomial.{Monomial, cross_of, IsBeyondDivided}
+use Rattle.theory_formula.specs.Formula.{Formula, Formulas}
+use Rattle.theory_formula.specs.SignCondition.{IsAtomOf}
 use Rattle.theory_elimination.specs.TestPoint.{TestPoint, infinity, root, before}
 use Rattle.theory_elimination.specs.Substituted.{either, both, IsConditionOn}
 use Rattle.theory_elimination.specs.Widths.{SomeAtomAmong, IsWideCross}

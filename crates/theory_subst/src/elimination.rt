@@ -1,25 +1,23 @@
-ghost use Rattle.std.specs.Prelude.{◌≡◌, ◌<◌, IfOk, IfSome, IfNone, ℕ, map, slice_get};
-ghost use Rattle.std.specs.Option.{option_map};
+ghost use Rattle.std.specs.Prelude.{◌≡◌, ◌<◌, IfOk, IfSome, IfNone, ℕ, map};
 ghost use Rattle.theory_meaning.specs.Fraction.{Fraction};
-ghost use Rattle.theory_method.specs.PolynomialValue.{Values};
-ghost use Rattle.theory_method.specs.Formula.{IsTrueAt};
-ghost use Rattle.theory_method.specs.Formula as tree;
-ghost use Rattle.theory_elimination.specs.TestPoint.{is_constant};
-ghost use Rattle.theory_elimination.specs.TestPoint as written;
-ghost use Rattle.theory_elimination.specs.Branches.{IsGuarded, IsLevel, IsWrittenBy, only, plan_at, root_plans};
+ghost use Rattle.theory_polynomial.specs.PolynomialValue.{Values};
+ghost use Rattle.theory_formula.specs.Formula.{IsTrueAt};
+ghost use Rattle.theory_formula.specs.Formula as tree;
+ghost use Rattle.theory_elimination.specs.Branches.{IsLevel, IsWrittenBy, only, plan_at};
+ghost use Rattle.theory_elimination.specs.Substituted.{IsFormulaAt};
 ghost use Rattle.theory_elimination.specs.Substituted as plain;
 ghost use Rattle.theory_elimination.specs.Elimination.{with_value, IsLinear, IsFree, IsLevelBranch, BranchIsTrueAt};
-ghost use Rattle.theory_elimination.specs.Widths.{IsWideAt, IsWidePlan, IsWideBranch};
+ghost use Rattle.theory_elimination.specs.Widths.{IsWidePlan, IsWideBranch};
 ghost use Rattle.theory_poly.specs.Answers.{WideWhere};
 ghost use Rattle.theory_signs.specs.Plain.{formula_of};
 ghost use Rattle.theory_subst.specs.Answers.{IsKthBranch, IsWrittenByKth, IsWideKth};
-ghost use Rattle.theory_subst.specs.Plans.{plan_of};
-ghost use Rattle.theory_subst.specs.Points.{point_of};
+ghost use Rattle.theory_subst.specs.Plans.{plan_of, plans_of, left_of, ArePlansOf};
+ghost use Rattle.theory_subst.specs.Points.{point_of, points_of};
 
-use crate::slope::sign_of_slope;
+use crate::others::{left, left_at};
+use crate::planning::{Plan, Plans, branch_plans};
 use crate::substitution::substitute;
-use crate::test_point::{TestPoint, test_points};
-use crate::top_equation::{TopEquation, top_equation};
+use crate::test_point::TestPoint;
 use std::alloc::Global;
 use theory_meaning::Sign;
 use theory_points::{Limit, NoMemory};
@@ -34,12 +32,12 @@ pub fn branch(alloc: Global, x: u8, formula: &Formula, k: u32) -> Result<Option<
 
     // A branch is true only where some value of the symbol makes the formula true.
     ensures sound { IfOk result (λ found. IfSome found (λ G. (p : Values) →
-        IsTrueAt p (formula_of G) →
-        (v : Fraction) × IsTrueAt (with_value x v p) (formula_of formula.now))) }
+        IsTrueAt (formula_of G) p →
+        (v : Fraction) × IsTrueAt (formula_of formula.now) (with_value x v p))) }
 
     // Past the last, each point of the formula is one of some branch before.
     ensures complete { IfOk result (λ found. IfNone found ((p : Values) →
-        IsTrueAt p (formula_of formula.now) →
+        IsTrueAt (formula_of formula.now) p →
         (j : ℕ) × (j < k) × BranchIsTrueAt x (formula_of formula.now) p j)) }
 
     // The symbol occurs in no branch but the third of an equation.
@@ -49,101 +47,79 @@ pub fn branch(alloc: Global, x: u8, formula: &Formula, k: u32) -> Result<Option<
     // Wide exactly where a cross product of this branch passes a limit.
     ensures wide { WideWhere (IsWideBranch x (formula_of formula.now) k) result }
 {
-    match top_equation(alloc, x, formula)? {
-        Some(equation) => branch_by_equation(alloc, x, equation, k),
-        None => branch_by_point(alloc, x, formula, k),
-    }
+    let plans = branch_plans(alloc, x, formula)?;
+    branch_at(alloc, x, formula, &plans, k as usize)
 }
 
-/// How a branch is written for a formula.
-#[derive(Drop)]
-enum Plan {
-    /// At the test point.
-    At(TestPoint),
-    /// The same, with the guard that its slope has its sign.
-    Guarded(TestPoint),
-    /// Slope and base are zero, and the formula as it stands.
-    Level(Poly, Poly),
-}
-
-/// The `k`-th branch by an equation.
-fn branch_by_equation(
-    alloc: Global,
-    x: u8,
-    equation: TopEquation,
-    k: u32,
-) -> Result<Option<Formula>, Limit>
-    requires symbol { x < 32 }
-    requires linear { IsLinear x (formula_of equation.others) }
-    ensures written { IfOk result (IsWrittenByKth x (root_plans (is_constant equation.slope)
-        equation.slope equation.base (formula_of equation.others)) k) }
-    ensures wide { WideWhere (IsWideKth x (root_plans (is_constant equation.slope)
-        equation.slope equation.base (formula_of equation.others)) k) result }
-{
-    match root_plan(equation.slope, equation.base, k) {
-        Some(plan) => Ok(Some(planned(alloc, x, equation.others, plan)?)),
-        None => Ok(None),
-    }
-}
-
-/// At the root for a positive slope, a negative one, and level; one root where the sign is known.
-fn root_plan(slope: Poly, base: Poly, k: u32) -> Option<Plan>
-    ensures { (F : tree.Formula) → slice_get (root_plans (is_constant slope) slope base F) k
-        ≡ option_map (plan_of F) result }
-{
-    match (sign_of_slope(&slope), k) {
-        (Some(sign), 0) => Some(Plan::At(TestPoint::Root(slope, base, sign))),
-        (None, 0) => Some(Plan::Guarded(TestPoint::Root(slope, base, Sign::Plus))),
-        (None, 1) => Some(Plan::Guarded(TestPoint::Root(slope, base, Sign::Minus))),
-        (None, 2) => Some(Plan::Level(slope, base)),
-        _ => None,
-    }
-}
-
-/// The formula as it is planned.
-fn planned(alloc: Global, x: u8, formula: Formula, plan: Plan) -> Result<Formula, Limit>
-    requires symbol { x < 32 }
-    requires linear { IsLinear x (formula_of formula) }
-    ensures written { IfOk result (λ G.
-        IsWrittenBy x (plan_of (formula_of formula) plan) (formula_of G)) }
-    ensures wide { WideWhere (IsWidePlan x (plan_of (formula_of formula) plan)) result }
-{
-    match plan {
-        Plan::At(point) => substitute(alloc, x, &formula, &point),
-        Plan::Guarded(point) => at_point(alloc, x, &formula, &point),
-        Plan::Level(slope, base) => Ok(level(alloc, &slope, &base, formula)?),
-    }
-}
-
-/// The formula as it stands, where slope and base are zero.
-fn level(alloc: Global, slope: &Poly, base: &Poly, formula: Formula) -> Result<Formula, NoMemory>
-    ensures { IfOk result (λ G. IsLevel slope.now base.now (formula_of formula) (formula_of G)) }
-{
-    let flat = make_atom(alloc, slope, Signs::Zero)?;
-    let zero = make_atom(alloc, base, Signs::Zero)?;
-    let mut members = Vec::new(alloc);
-    members.push(flat)?;
-    members.push(zero)?;
-    members.push(formula)?;
-    Ok(Formula::And(members))
-}
-
-/// The branch at the `k`-th test point.
-fn branch_by_point(
+/// The `k`-th branch by plans that were made for this formula; None past the last.
+pub fn branch_at(
     alloc: Global,
     x: u8,
     formula: &Formula,
-    k: u32,
+    plans: &Plans,
+    k: usize,
 ) -> Result<Option<Formula>, Limit>
     requires symbol { x < 32 }
     requires linear { IsLinear x (formula_of formula.now) }
-    ensures written { IfOk result (IsWrittenByKth x (map (plan_at (formula_of formula.now))
-        (written.test_points x (formula_of formula.now))) k) }
-    ensures wide { WideWhere (IsWideKth x (map (plan_at (formula_of formula.now))
-        (written.test_points x (formula_of formula.now))) k) result }
+    requires planned { ArePlansOf x (formula_of formula.now) plans.now }
+    ensures written { IfOk result (IsKthBranch x (formula_of formula.now) k) }
+
+    // A branch is true only where some value of the symbol makes the formula true.
+    ensures sound { IfOk result (λ found. IfSome found (λ G. (p : Values) →
+        IsTrueAt (formula_of G) p →
+        (v : Fraction) × IsTrueAt (formula_of formula.now) (with_value x v p))) }
+
+    // Past the last, each point of the formula is one of some branch before.
+    ensures complete { IfOk result (λ found. IfNone found ((p : Values) →
+        IsTrueAt (formula_of formula.now) p →
+        (j : ℕ) × (j < k) × BranchIsTrueAt x (formula_of formula.now) p j)) }
+
+    // The symbol occurs in no branch but the third of an equation.
+    ensures free { IfOk result (λ found. IfSome found (λ G.
+        ¬ IsLevelBranch x (formula_of formula.now) k → IsFree x (formula_of G))) }
+
+    // Wide exactly where a cross product of this branch passes a limit.
+    ensures wide { WideWhere (IsWideBranch x (formula_of formula.now) k) result }
 {
-    let points = test_points(alloc, x, formula)?;
-    match points.get(k as usize) {
+    by_plans(alloc, x, formula, plans, k)
+}
+
+fn by_plans(
+    alloc: Global,
+    x: u8,
+    formula: &Formula,
+    plans: &Plans,
+    k: usize,
+) -> Result<Option<Formula>, Limit>
+    requires symbol { x < 32 }
+    requires linear { IsLinear x (formula_of formula.now) }
+    ensures written { IfOk result
+        (IsWrittenByKth x (plans_of (formula_of formula.now) plans.now) k) }
+    ensures wide { WideWhere
+        (IsWideKth x (plans_of (formula_of formula.now) plans.now) k) result }
+{
+    match plans {
+        Plans::AtPoints(points) => by_point(alloc, x, formula, points, k),
+        Plans::ByEquation(place, roots) => by_root(alloc, x, formula, *place, roots, k),
+    }
+}
+
+/// The branch at the `k`-th test point.
+fn by_point(
+    alloc: Global,
+    x: u8,
+    formula: &Formula,
+    points: &[TestPoint],
+    k: usize,
+) -> Result<Option<Formula>, Limit>
+    requires symbol { x < 32 }
+    requires linear { IsLinear x (formula_of formula.now) }
+    ensures written { IfOk result (IsWrittenByKth x
+        (map (plan_at (formula_of formula.now)) (points_of points.now)) k) }
+    ensures wide { WideWhere (IsWideKth x
+        (map (plan_at (formula_of formula.now)) (points_of points.now)) k) result }
+{
+    match points.get(k) {
         Some(point) => match at_point(alloc, x, formula, point) {
             Ok(found) => Ok(Some(found)),
             Err(limit) => Err(limit),
@@ -161,32 +137,89 @@ fn at_point(alloc: Global, x: u8, formula: &Formula, point: &TestPoint) -> Resul
     ensures wide { WideWhere
         (IsWidePlan x (plan_at (formula_of formula.now) (point_of point.now))) result }
 {
-    match point {
-        TestPoint::Infinity => substitute(alloc, x, formula, point),
-        TestPoint::Root(slope, _, sign) | TestPoint::Before(slope, _, sign) => {
-            guarded(alloc, x, formula, point, slope, *sign)
+    let there = substitute(alloc, x, formula, point)?;
+    Ok(guarded(alloc, point, there)?)
+}
+
+/// The branch by the `k`-th root of an equation, for the other members.
+fn by_root(
+    alloc: Global,
+    x: u8,
+    formula: &Formula,
+    place: usize,
+    roots: &[Plan],
+    k: usize,
+) -> Result<Option<Formula>, Limit>
+    requires symbol { x < 32 }
+    requires linear { IsLinear x (formula_of formula.now) }
+    ensures written { IfOk result (IsWrittenByKth x
+        (map (plan_of (left_of place (formula_of formula.now))) roots.now) k) }
+    ensures wide { WideWhere (IsWideKth x
+        (map (plan_of (left_of place (formula_of formula.now))) roots.now) k) result }
+{
+    match roots.get(k) {
+        Some(plan) => match planned(alloc, x, formula, place, plan) {
+            Ok(found) => Ok(Some(found)),
+            Err(limit) => Err(limit),
+        },
+        None => Ok(None),
+    }
+}
+
+/// The other members than the one at a place, as they are planned.
+fn planned(
+    alloc: Global,
+    x: u8,
+    formula: &Formula,
+    place: usize,
+    plan: &Plan,
+) -> Result<Formula, Limit>
+    requires symbol { x < 32 }
+    requires linear { IsLinear x (formula_of formula.now) }
+    ensures written { IfOk result (λ G. IsWrittenBy x
+        (plan_of (left_of place (formula_of formula.now)) plan.now) (formula_of G)) }
+    ensures wide { WideWhere
+        (IsWidePlan x (plan_of (left_of place (formula_of formula.now)) plan.now)) result }
+{
+    match plan {
+        Plan::At(point) => left_at(alloc, x, formula, place, point),
+        Plan::Guarded(point) => {
+            let there = left_at(alloc, x, formula, place, point)?;
+            Ok(guarded(alloc, point, there)?)
+        }
+        Plan::Level(slope, base) => {
+            let others = left(alloc, formula, place)?;
+            Ok(level(alloc, slope, base, others)?)
         }
     }
 }
 
-/// The formula at a test point, behind the condition that the slope has the sign.
-fn guarded(
-    alloc: Global,
-    x: u8,
-    formula: &Formula,
-    point: &TestPoint,
-    slope: &Poly,
-    sign: Sign,
-) -> Result<Formula, Limit>
-    requires symbol { x < 32 }
-    requires linear { IsLinear x (formula_of formula.now) }
-    ensures written { IfOk result (λ G. IsGuarded x (point_of point.now) slope.now sign
-        (formula_of formula.now) (formula_of G)) }
-    ensures wide { WideWhere (IsWideAt x (point_of point.now) (formula_of formula.now)) result }
+/// A formula at a test point, with the guard that the slope has its sign; infinity has none.
+fn guarded(alloc: Global, point: &TestPoint, there: Formula) -> Result<Formula, NoMemory>
+    ensures { IfOk result (λ G. (x : ℕ) (F : tree.Formula) →
+        IsFormulaAt x (point_of point.now) F (formula_of there) →
+        IsWrittenBy x (plan_at F (point_of point.now)) (formula_of G)) }
 {
-    let there = substitute(alloc, x, formula, point)?;
-    let guard = make_atom(alloc, slope, only(sign))?;
-    Ok(both(alloc, guard, there)?)
+    match point {
+        TestPoint::Infinity => Ok(there),
+        TestPoint::Root(slope, _, sign) | TestPoint::Before(slope, _, sign) => {
+            let guard = make_atom(alloc, slope, only(*sign))?;
+            both(alloc, guard, there)
+        }
+    }
+}
+
+/// The formula as it stands, where slope and base are zero.
+fn level(alloc: Global, slope: &Poly, base: &Poly, formula: Formula) -> Result<Formula, NoMemory>
+    ensures { IfOk result (λ G. IsLevel slope.now base.now (formula_of formula) (formula_of G)) }
+{
+    let flat = make_atom(alloc, slope, Signs::Zero)?;
+    let zero = make_atom(alloc, base, Signs::Zero)?;
+    let mut members = Vec::new(alloc);
+    members.push(flat)?;
+    members.push(zero)?;
+    members.push(formula)?;
+    Ok(Formula::And(members))
 }
 
 /// The set of one sign.

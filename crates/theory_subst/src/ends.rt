@@ -1,8 +1,8 @@
 ghost use Rattle.std.specs.Prelude.{◌≡◌, ◌<◌, IfOk, OnOk, map};
 ghost use Rattle.std.specs.Option.{option_map};
-ghost use Rattle.theory_method.specs.Polynomial.{IsLinearIn};
-ghost use Rattle.theory_method.specs.Formula.{formulas_from, EachAtomOfAll};
-ghost use Rattle.theory_method.specs.FormulaAtoms.{atoms_of, atoms_of_all};
+ghost use Rattle.theory_polynomial.specs.Polynomial.{IsLinearIn};
+ghost use Rattle.theory_formula.specs.Formula.{formulas_from, EachAtomOfAll};
+ghost use Rattle.theory_formula.specs.FormulaAtoms.{atoms_of, atoms_of_all};
 ghost use Rattle.theory_elimination.specs.TestPoint.{end_of, listed, is_constant, ends_by_slope, ends_of_atom, ends_of_atoms};
 ghost use Rattle.theory_elimination.specs.Elimination.{IsLinear, IsLinearAtom};
 ghost use Rattle.theory_signs.specs.Plain.{formula_of};

@@ -4,29 +4,20 @@
 //! for (`point_of` of `specs/Points.antt`). Read `branch` first.
 #![tactic(auto)]
 
-#[cfg(test)]
-mod branch_tests;
 mod elimination;
 mod ends;
-#[cfg(test)]
-mod grid_tests;
 mod line;
 mod linearity;
-#[cfg(test)]
-mod notation;
-#[cfg(test)]
-mod rows;
+mod others;
+mod planning;
 mod sameness;
 mod slope;
 mod substitution;
-#[cfg(test)]
-mod substitution_tests;
 mod test_point;
-#[cfg(test)]
-mod tests;
 mod top_equation;
 
-pub use elimination::branch;
+pub use elimination::{branch, branch_at};
 pub use linearity::is_linear;
+pub use planning::{Plan, Plans, branch_plans};
 pub use substitution::substitute;
 pub use test_point::{TestPoint, TestPoints, test_points};

@@ -1,5 +1,5 @@
 ghost use Rattle.std.specs.Prelude.{◌≡◌, ◌<◌, [], ◌∷◌, IfOk};
-ghost use Rattle.theory_elimination.specs.TestPoint.{slope_in, base_in};
+ghost use Rattle.theory_polynomial.specs.PolynomialValue.{slope_in, base_in};
 ghost use Rattle.theory_elimination.specs.Elimination.{IsLinearAtom};
 ghost use Rattle.theory_elimination.specs.Substituted.{IsConditionOn, IsLineAt, along_slope};
 ghost use Rattle.theory_poly.specs.Answers.{WideWhere};
@@ -9,8 +9,8 @@ ghost use Rattle.theory_subst.specs.Lines.{IsBySign, IsWideLine};
 
 use crate::test_point::TestPoint;
 use std::alloc::Global;
+use theory_formula::Signs;
 use theory_meaning::Sign;
-use theory_method::Signs;
 use theory_points::{Limit, NoMemory};
 use theory_poly::Poly;
 use theory_signs::{Formula, Formulas, make_atom};

@@ -1,5 +1,5 @@
 ghost use Rattle.std.specs.Prelude.{◌<◌, map, MatchBool};
-ghost use Rattle.theory_method.specs.Formula.{EachAtomOfAll, formulas_from};
+ghost use Rattle.theory_formula.specs.Formula.{EachAtomOfAll, formulas_from};
 ghost use Rattle.theory_elimination.specs.Elimination.{IsLinear, IsLinearAtom};
 ghost use Rattle.theory_signs.specs.Plain.{formula_of};
 

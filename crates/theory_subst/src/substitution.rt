@@ -1,5 +1,5 @@
 ghost use Rattle.std.specs.Prelude.{◌≡◌, ◌<◌, ◌++◌, [], ◌∷◌, map, IfOk, OnOk};
-ghost use Rattle.theory_method.specs.Formula.{EachAtomOfAll, formulas_from};
+ghost use Rattle.theory_formula.specs.Formula.{EachAtomOfAll, formulas_from};
 ghost use Rattle.theory_elimination.specs.Elimination.{IsLinear, IsLinearAtom};
 ghost use Rattle.theory_elimination.specs.Substituted.{IsFormulaAt, AreFormulasAt};
 ghost use Rattle.theory_elimination.specs.Widths.{IsWideAt};
@@ -79,7 +79,7 @@ fn all_substituted(
 }
 
 /// Adds a member at the end.
-fn keep(members: &mut Formulas, formula: Formula) -> Result<(), NoMemory>
+pub fn keep(members: &mut Formulas, formula: Formula) -> Result<(), NoMemory>
     ensures { OnOk result (members.new.items ≡ members.old.items ++ formula ∷ []) }
 {
     members.push(formula)?;

@@ -1,33 +1,24 @@
-ghost use Rattle.std.specs.Prelude.{◌≡◌, ◌<◌, ◌||◌, not, [], ◌∷◌, length, map, IfOk};
-ghost use Rattle.theory_method.specs.Formula.{formulas_from, EachAtomOfAll};
-ghost use Rattle.theory_method.specs.Formula as plain;
+ghost use Rattle.std.specs.Prelude.{◌≡◌, ◌<◌, ◌||◌, not, [], ◌∷◌, map, IfOk};
+ghost use Rattle.theory_formula.specs.Formula.{formulas_from, EachAtomOfAll};
+ghost use Rattle.theory_formula.specs.Formula as plain;
 ghost use Rattle.theory_elimination.specs.TestPoint.{is_constant};
-ghost use Rattle.theory_elimination.specs.Branches.{equation_of, equation_if, taken_behind, top_equation, others_of, or_else, plain_equation_of};
+ghost use Rattle.theory_elimination.specs.Branches.{equation_of, equation_if, taken_behind, top_equation, members_of, or_else, plain_equation_of};
 ghost use Rattle.theory_elimination.specs.Elimination.{IsLinear, IsLinearAtom};
 ghost use Rattle.theory_signs.specs.Plain.{formula_of};
-ghost use Rattle.theory_subst.specs.Answers.{IsTopEquation};
-ghost use Rattle.theory_subst.specs.Equations.{equation_with, without, ArePartsOf, IsFirst};
+ghost use Rattle.theory_subst.specs.Equations.{equation_with, ArePartsOf, IsFirst};
 
 use crate::slope::sign_of_slope;
 use std::alloc::Global;
 use theory_points::NoMemory;
 use theory_poly::Poly;
-use theory_signs::{Atom, Formula, Formulas, Signs};
+use theory_signs::{Atom, Formula, Signs};
 
-/// An equation of the top level in which the symbol occurs, and the other members together.
+/// An equation of the top level in which the symbol occurs, by its place among the members from 0.
 #[derive(Drop)]
 pub struct TopEquation {
+    pub place: usize,
     pub slope: Poly,
     pub base: Poly,
-    pub others: Formula,
-}
-
-/// An equation among members, by its place from 0.
-#[derive(Drop)]
-pub struct Found {
-    place: usize,
-    slope: Poly,
-    base: Poly,
 }
 
 /// The first equation with a slope without symbols, and else the first equation.
@@ -38,10 +29,11 @@ pub fn top_equation(
 ) -> Result<Option<TopEquation>, NoMemory>
     requires symbol { x < 32 }
     requires linear { IsLinear x (formula_of formula.now) }
-    ensures { IfOk result (IsTopEquation x (top_equation x (formula_of formula.now))) }
+    ensures { IfOk result (IsFirst x (members_of (formula_of formula.now))
+        (top_equation x (formula_of formula.now))) }
 {
     match formula {
-        Formula::And(members) => equation_among(alloc, x, members),
+        Formula::And(members) => preferred(alloc, x, members),
         Formula::Atom(_) => lone_equation(alloc, x, formula),
         Formula::True | Formula::False | Formula::Or(_) => Ok(None),
     }
@@ -51,41 +43,20 @@ pub fn top_equation(
 fn lone_equation(alloc: Global, x: u8, formula: &Formula) -> Result<Option<TopEquation>, NoMemory>
     requires symbol { x < 32 }
     requires linear { IsLinear x (formula_of formula.now) }
-    ensures { IfOk result (IsTopEquation x
+    ensures { IfOk result (IsFirst x (formula_of formula.now ∷ [])
         (taken_behind (equation_of x) [] (formula_of formula.now ∷ []))) }
 {
     match equation(alloc, x, false, formula)? {
         Some((slope, base)) => Ok(Some(TopEquation {
+            place: 0,
             slope,
             base,
-            others: Formula::True,
         })),
         None => Ok(None),
     }
 }
 
-fn equation_among(
-    alloc: Global,
-    x: u8,
-    members: &[Formula],
-) -> Result<Option<TopEquation>, NoMemory>
-    requires symbol { x < 32 }
-    requires linear { EachAtomOfAll (IsLinearAtom x) (formulas_from (map formula_of members.now)) }
-    ensures { IfOk result (IsTopEquation x (or_else
-        (taken_behind (plain_equation_of x) [] (map formula_of members.now))
-        (taken_behind (equation_of x) [] (map formula_of members.now)))) }
-{
-    match preferred(alloc, x, members)? {
-        Some(found) => Ok(Some(TopEquation {
-            slope: found.slope,
-            base: found.base,
-            others: together(but_one(alloc, members, found.place)?),
-        })),
-        None => Ok(None),
-    }
-}
-
-fn preferred(alloc: Global, x: u8, members: &[Formula]) -> Result<Option<Found>, NoMemory>
+fn preferred(alloc: Global, x: u8, members: &[Formula]) -> Result<Option<TopEquation>, NoMemory>
     requires symbol { x < 32 }
     requires linear { EachAtomOfAll (IsLinearAtom x) (formulas_from (map formula_of members.now)) }
     ensures { IfOk result (IsFirst x (map formula_of members.now) (or_else
@@ -99,7 +70,12 @@ fn preferred(alloc: Global, x: u8, members: &[Formula]) -> Result<Option<Found>,
 }
 
 /// The first equation in the symbol, or the first with a slope without symbols.
-fn first(alloc: Global, x: u8, plain: bool, members: &[Formula]) -> Result<Option<Found>, NoMemory>
+fn first(
+    alloc: Global,
+    x: u8,
+    plain: bool,
+    members: &[Formula],
+) -> Result<Option<TopEquation>, NoMemory>
     requires symbol { x < 32 }
     requires linear { EachAtomOfAll (IsLinearAtom x) (formulas_from (map formula_of members.now)) }
     ensures { IfOk result (IsFirst x (map formula_of members.now)
@@ -107,7 +83,7 @@ fn first(alloc: Global, x: u8, plain: bool, members: &[Formula]) -> Result<Optio
 {
     for (place, member) in members.iter().enumerate() {
         match equation(alloc, x, plain, member)? {
-            Some((slope, base)) => return Ok(Some(Found { place, slope, base })),
+            Some((slope, base)) => return Ok(Some(TopEquation { place, slope, base })),
             None => {}
         }
     }
@@ -156,29 +132,4 @@ fn is_wanted(plain: bool, slope: &Poly) -> bool
     ensures { result ≡ (not plain || is_constant slope.now) }
 {
     !plain || sign_of_slope(slope).is_some()
-}
-
-/// Equal members but for the one at a place from 0.
-fn but_one(alloc: Global, members: &[Formula], at: usize) -> Result<Formulas, NoMemory>
-    requires { at < length members.now }
-    ensures { IfOk result (λ others.
-        map formula_of others.items ≡ without at (map formula_of members.now)) }
-{
-    let mut others = Vec::new(alloc);
-    for (place, member) in members.iter().enumerate() {
-        if place != at {
-            others.push(member.copy(alloc)?)?;
-        }
-    }
-    Ok(others)
-}
-
-/// All members; True where there is none.
-fn together(members: Formulas) -> Formula
-    ensures { formula_of result ≡ others_of (map formula_of members.items) }
-{
-    if members.is_empty() {
-        return Formula::True;
-    }
-    Formula::And(members)
 }

@@ -1,7 +1,7 @@
 use Rattle.std.proofs.Common.{◌≡◌, sym, ap, ◌∙◌, subst, arith}
 use Rattle.std.proofs.lemmas.Result.{IfOk-weaker}
 use Rattle.theory_poly.specs.Kept.{IsSignedForm}
-use Rattle.theory_method.specs.Polynomial.{scaled}
+use Rattle.theory_polynomial.specs.Polynomial.{scaled}
 use Rattle.theory_poly.proofs.CanonicalLaws.{kept_multiplied, kept_form, signed_form_of, unit_within}
 use Rattle.theory_poly.proofs.canonical.signed_form.Goals as goal
 

@@ -1,5 +1,5 @@
 use Rattle.std.proofs.Common.{◌≡◌, max, drop}
-use Rattle.theory_method.specs.Polynomial.{greatest_of}
+use Rattle.theory_polynomial.specs.Polynomial.{greatest_of}
 use Rattle.theory_poly.proofs.judging.greatest.Given as goal
 
 abbrev pub invariant-loop-n : goal.invariant-loop-n

@@ -1,6 +1,6 @@
 use Rattle.std.proofs.Common.{◌≡◌, ◌++◌, ◌+◌, drop, sym, ap, ap₂, ◌∙◌, subst, arith}
 use Rattle.std.proofs.lemmas.List.{take_rest}
-use Rattle.theory_method.specs.Polynomial.{sum_of, height_of}
+use Rattle.theory_polynomial.specs.Polynomial.{sum_of, height_of}
 use Rattle.theory_poly.specs.Kept.{IsGathered}
 use Rattle.theory_poly.proofs.HeightLaws.{height_at, nothing}
 use Rattle.theory_poly.proofs.MergeLaws.{merged_of, step_first, step_second, step_both, finish_first, finish_second, merged_is_gathered}

@@ -2,7 +2,7 @@ use Rattle.std.proofs.Common.{◌≡◌, ◌≢◌, ◌^◌, pos, w64, sym, ap, 
 use mir.Val.{to_z, of_z}
 use Rattle.std.proofs.lemmas.Int.{ints}
 use Rattle.std.proofs.lemmas.Result.{IfOk-weaker}
-use Rattle.theory_method.specs.Polynomial.{scaled}
+use Rattle.theory_polynomial.specs.Polynomial.{scaled}
 use Rattle.theory_poly.specs.Kept.{IsGathered}
 use Rattle.theory_poly.proofs.ScaleLaws.{gathered_nothing, gathered_multiple}
 use Rattle.theory_poly.proofs.merging.multiple.Goals as goal

@@ -2,7 +2,7 @@ use Rattle.std.proofs.Common.{◌≡◌, ◌+◌, ◌^◌, w64, subst, arith}
 use mir.Val.{to_z, of_z}
 use Rattle.std.proofs.lemmas.Int.{ints}
 use Rattle.std.proofs.lemmas.Result.{IfOk-weaker}
-use Rattle.theory_method.specs.Polynomial.{scaled, sum_of, height_of}
+use Rattle.theory_polynomial.specs.Polynomial.{scaled, sum_of, height_of}
 use Rattle.theory_poly.specs.Kept.{IsGathered}
 use Rattle.theory_poly.proofs.ScaleLaws.{gathered_sum}
 use Rattle.theory_poly.proofs.merging.sum_of_multiples.Goals as goal

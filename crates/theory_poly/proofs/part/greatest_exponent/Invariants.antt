@@ -1,5 +1,5 @@
 use Rattle.std.proofs.Common.{◌≡◌, max, drop}
-use Rattle.theory_method.specs.Polynomial.{degree_in}
+use Rattle.theory_polynomial.specs.Polynomial.{degree_in}
 use Rattle.theory_poly.proofs.part.greatest_exponent.Given as goal
 
 abbrev pub invariant-loop-t : goal.invariant-loop-t

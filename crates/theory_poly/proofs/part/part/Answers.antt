@@ -1,6 +1,6 @@
 use Rattle.std.proofs.Common.{ap, ◌∙◌}
 use Rattle.std.proofs.lemmas.List.{take_all}
-use Rattle.theory_method.specs.PolynomialValue.{part_of}
+use Rattle.theory_polynomial.specs.PolynomialValue.{part_of}
 use Rattle.theory_poly.proofs.PartLaws.{kept_part}
 use Rattle.theory_poly.proofs.part.part.Goals as goal
 

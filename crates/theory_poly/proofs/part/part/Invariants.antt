@@ -1,5 +1,5 @@
 use Rattle.std.proofs.Common.{◌≡◌, take}
-use Rattle.theory_method.specs.PolynomialValue.{part_of}
+use Rattle.theory_polynomial.specs.PolynomialValue.{part_of}
 use Rattle.theory_poly.proofs.part.part.Given as goal
 
 abbrev pub invariant-loop-t : goal.invariant-loop-t

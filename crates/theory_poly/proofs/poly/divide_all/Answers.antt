@@ -4,7 +4,7 @@ use Rattle.std.specs.Int.{w128}
 use Rattle.std.proofs.lemmas.Int.{ints}
 use mir.Val.{to_z, of_z}
 use Rattle.theory_meaning.specs.Limits.{bound}
-use Rattle.theory_method.specs.Polynomial.{monomial}
+use Rattle.theory_polynomial.specs.Polynomial.{monomial}
 use Rattle.theory_poly.proofs.HeightLaws.{height_at, nothing}
 use Rattle.theory_poly.proofs.ContentLaws.{each_at, same_at, quotient_small, divided_more, left_more}
 use Rattle.theory_poly.proofs.poly.divide_all.Goals as goal

@@ -1,5 +1,5 @@
 use Rattle.std.proofs.Common.{◌≡◌, pos, take, drop}
-use Rattle.theory_method.specs.Polynomial.{scaled}
+use Rattle.theory_polynomial.specs.Polynomial.{scaled}
 use Rattle.theory_poly.proofs.poly.divide_all.Given as goal
 
 abbrev pub invariant-loop-t : goal.invariant-loop-t

@@ -1,7 +1,7 @@
 use Rattle.std.proofs.Common.{◌≡◌, ◌+◌, ◌*◌, ◌-◌, ◌<◌, ◌^◌, ◌/◌, length, get_or, take, drop, refl, arith}
 use Rattle.std.proofs.lemmas.Result.{IfOk-weaker}
 use Rattle.std.proofs.lemmas.List.{take_rest}
-use Rattle.theory_method.specs.Polynomial.{product_of, multiple_of, sum_of, height_of}
+use Rattle.theory_polynomial.specs.Polynomial.{product_of, multiple_of, sum_of, height_of}
 use Rattle.theory_poly.specs.Kept.{IsGathered}
 use Rattle.theory_poly.proofs.HeightLaws.{nothing}
 use Rattle.theory_poly.proofs.ProductLaws.{kept_taken, kept_dropped, kept_term, only_one, shorter_taken, shorter_dropped, gathered_row, gathered_product}

@@ -1,6 +1,6 @@
 use Rattle.std.proofs.Common.{◌+◌, ◌^◌}
 use Rattle.std.proofs.lemmas.Result.{IfOk-weaker}
-use Rattle.theory_method.specs.Polynomial.{cross_of, sum_of, height_of}
+use Rattle.theory_polynomial.specs.Polynomial.{cross_of, sum_of, height_of}
 use Rattle.theory_poly.specs.Kept.{IsGathered}
 use Rattle.theory_poly.proofs.ProductLaws.{kept_turned, gathered_cross}
 use Rattle.theory_poly.proofs.product.cross_product.Goals as goal

@@ -1,5 +1,5 @@
 use Rattle.std.proofs.Common.{◌≡◌, length, take}
-use Rattle.theory_method.specs.Polynomial.{powers_of_product}
+use Rattle.theory_polynomial.specs.Polynomial.{powers_of_product}
 use Rattle.theory_poly.proofs.product.sum_of_powers.Given as goal
 
 abbrev pub invariant-loop-k : goal.invariant-loop-k

@@ -1,6 +1,6 @@
 use Rattle.std.proofs.Common.{◌/◌, inl, inr, refl, sym, ◌∙◌, subst, arith}
-use Rattle.theory_method.specs.Polynomial.{IsPolynomial, PassesLimit}
-use Rattle.theory_method.specs.RationalPolynomial.{IsLowestOf, IsQuotientBeyond}
+use Rattle.theory_polynomial.specs.Polynomial.{IsPolynomial, PassesLimit}
+use Rattle.theory_polynomial.specs.RationalPolynomial.{IsLowestOf, IsQuotientBeyond}
 use Rattle.theory_poly.specs.Kept.{quotient_of}
 use Rattle.theory_poly.proofs.StepLaws.{limit_weaker}
 use Rattle.theory_poly.proofs.QuotientLaws.{lowest_by_division, not_quotient_beyond, kept_quotient, kept_is_no_passing}

@@ -3,7 +3,7 @@ use Rattle.std.proofs.lemmas.Int.{ints}
 use Rattle.std.proofs.Math.Nat.{pow-zero}
 use mir.Val.{to_z, of_z}
 use Rattle.theory_meaning.specs.Fraction.{den}
-use Rattle.theory_method.specs.PolynomialValue.{IsWideRestriction}
+use Rattle.theory_polynomial.specs.PolynomialValue.{IsWideRestriction}
 use Rattle.theory_poly.specs.Kept.{PassesInStep}
 use Rattle.theory_poly.proofs.StepLaws.{first_step, first_power_fits, first_step_fits, limit_weaker, step_is_wide, step_made, power_made, powers_fit_more, steps_fit_more, all_steps_fit}
 use Rattle.theory_poly.proofs.restriction.last_step.Goals as goal

@@ -1,8 +1,8 @@
 use Rattle.std.proofs.Common.{◌≡◌, ℕ, ◌≤◌, ◌^◌, pos}
 use Rattle.theory_meaning.specs.Fraction.{den}
 use Rattle.theory_meaning.specs.Limits.{bound}
-use Rattle.theory_method.specs.Polynomial.{IsPolynomialOf, IsBeyond}
-use Rattle.theory_method.specs.PolynomialValue.{restriction_step}
+use Rattle.theory_polynomial.specs.Polynomial.{IsPolynomialOf, IsBeyond}
+use Rattle.theory_polynomial.specs.PolynomialValue.{restriction_step}
 use Rattle.theory_poly.proofs.restriction.last_step.Given as goal
 
 abbrev pub invariant-loop-i : goal.invariant-loop-i

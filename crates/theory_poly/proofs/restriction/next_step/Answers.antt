@@ -5,7 +5,7 @@ use mir.Val.{to_z, of_z}
 use Rattle.theory_meaning.specs.Fraction.{den}
 use Rattle.theory_meaning.specs.Limits.{bound}
 use Rattle.theory_meaning.proofs.WholeLaws.{le_from_test}
-use Rattle.theory_method.specs.Polynomial.{scaled, sum_of, IsPolynomialOf, IsBeyond}
+use Rattle.theory_polynomial.specs.Polynomial.{scaled, sum_of, IsPolynomialOf, IsBeyond}
 use Rattle.theory_poly.specs.Kept.{PassesInStep}
 use Rattle.theory_poly.proofs.AnswerLaws.{answers_wide}
 use Rattle.theory_poly.proofs.StepLaws.{gathered_step, not_below_zero, limit_weaker}

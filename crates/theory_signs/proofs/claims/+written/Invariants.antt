@@ -1,5 +1,5 @@
 use Rattle.std.proofs.Common.{◌≡◌, map, take}
-use Rattle.theory_method.specs.WrittenClaim.{written_claim}
+use Rattle.theory_formula.specs.WrittenClaim.{written_claim}
 use Rattle.theory_syntax.specs.Plain.{claim_of}
 use Rattle.theory_signs.specs.Plain.{formula_of}
 use Rattle.theory_signs.proofs.claims.+written.Given as goal

@@ -1,5 +1,5 @@
 use Rattle.std.proofs.Common.{◌≡◌, min, sym, ap, ◌∙◌, subst}
-use Rattle.theory_method.specs.NormalForm.{normal_form, atom_count}
+use Rattle.theory_formula.specs.NormalForm.{normal_form, atom_count}
 use Rattle.theory_syntax.specs.Plain.{claim_of}
 use Rattle.theory_signs.proofs.CountLemmas.{negated_count, implication_count, equivalence_count}
 use Rattle.theory_signs.proofs.TreeLemmas.{tree-Not, tree-Implies, tree-Iff}

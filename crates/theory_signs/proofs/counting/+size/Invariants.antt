@@ -1,6 +1,6 @@
 use Rattle.std.proofs.Common.{◌≡◌, ◌+◌, ◌≤◌, min, drop}
 use Rattle.theory_meaning.specs.Tree.{claims_from}
-use Rattle.theory_method.specs.NormalForm.{normal_forms, atom_count_of_all}
+use Rattle.theory_formula.specs.NormalForm.{normal_forms, atom_count_of_all}
 use Rattle.theory_syntax.specs.Plain.{claims_of}
 use Rattle.theory_signs.proofs.counting.+size.Given as goal
 

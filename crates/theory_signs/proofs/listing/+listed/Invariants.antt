@@ -1,6 +1,6 @@
 use Rattle.std.proofs.Common.{drop}
 use Rattle.theory_meaning.specs.Tree.{claims_from}
-use Rattle.theory_method.specs.LoweringLimits.{AreListedClaims}
+use Rattle.theory_formula.specs.LoweringLimits.{AreListedClaims}
 use Rattle.theory_syntax.specs.Plain.{claims_of}
 use Rattle.theory_signs.proofs.listing.+listed.Given as goal
 

@@ -1,8 +1,8 @@
 use Rattle.std.proofs.Common.{List, IfOk, false, not, map, drop, ◌+◌, sym, ◌∙◌, subst, arith}
 use Rattle.std.proofs.lemmas.List.{at_drop_all}
 use Rattle.theory_syntax.specs.declared.claim.Claim.{Claim}
-use Rattle.theory_method.specs.Lowered.{IsFormulaOf}
-use Rattle.theory_method.specs.LoweringLimits.{IsWideClaim}
+use Rattle.theory_formula.specs.Lowered.{IsFormulaOf}
+use Rattle.theory_formula.specs.LoweringLimits.{IsWideClaim}
 use Rattle.theory_poly.specs.Answers.{WideWhere}
 use Rattle.theory_syntax.specs.Plain.{expr_of, claim_of, claims_of}
 use Rattle.theory_signs.specs.Lowering.{form_of}

@@ -1,5 +1,5 @@
 use Rattle.theory_syntax.specs.Plain.{expr_of}
-use Rattle.theory_signs.proofs.FormLaws.{form, difference_is_wide}
+use Rattle.theory_signs.proofs.FormLaws.{difference_is_wide}
 use Rattle.theory_signs.proofs.lowering.comparison.Goals as goal
 
 pub returns-in_ok-make_atom-in-Ok-clause-wide : goal.returns-in_ok-make_atom-in-Ok-clause-wide

@@ -1,4 +1,4 @@
-use Rattle.theory_method.proofs.ConditionLaws.{canonical_has_symbol}
+use Rattle.theory_formula.proofs.ConditionLaws.{canonical_has_symbol}
 use Rattle.theory_signs.proofs.making.canonical_atom.Goals as goal
 
 pub new-requires : goal.new-requires

@@ -1,5 +1,5 @@
 use Rattle.std.proofs.Common.{ap, ◌∙◌}
-use Rattle.theory_method.specs.SignCondition.{decided}
+use Rattle.theory_formula.specs.SignCondition.{decided}
 use Rattle.theory_signs.specs.Plain.{formula_of}
 use Rattle.theory_signs.proofs.FormulaLemmas.{answers_canonical, decision_truth}
 use Rattle.theory_signs.proofs.making.make_atom.Goals as goal

@@ -1,5 +1,5 @@
 use Rattle.std.proofs.Common.{◌≡◌, ℕ, ◌≤◌, drop}
-use Rattle.theory_method.specs.Polynomial.{degree_in}
+use Rattle.theory_polynomial.specs.Polynomial.{degree_in}
 use Rattle.theory_signs.proofs.naming.are_free.Given as goal
 
 abbrev pub invariant-loop-t : goal.invariant-loop-t

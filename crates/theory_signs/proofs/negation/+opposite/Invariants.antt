@@ -1,5 +1,5 @@
 use Rattle.std.proofs.Common.{◌≡◌, map, take}
-use Rattle.theory_method.specs.Formula.{negated}
+use Rattle.theory_formula.specs.Formula.{negated}
 use Rattle.theory_signs.specs.Plain.{formula_of}
 use Rattle.theory_signs.proofs.negation.+opposite.Given as goal
 

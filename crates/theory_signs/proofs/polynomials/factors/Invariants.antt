@@ -1,5 +1,5 @@
 use Rattle.std.proofs.Common.{◌≡◌, ◌++◌, map, drop}
-use Rattle.theory_method.specs.WrittenClaim.{factors_of}
+use Rattle.theory_formula.specs.WrittenClaim.{factors_of}
 use Rattle.theory_syntax.specs.Plain.{expr_of}
 use Rattle.theory_signs.proofs.polynomials.factors.Given as goal
 

@@ -1,5 +1,5 @@
 use Rattle.std.proofs.Common.{◌≡◌, map, MatchOption}
-use Rattle.theory_method.specs.WrittenClaim.{product_from, multiple_of}
+use Rattle.theory_formula.specs.WrittenClaim.{product_from, multiple_of}
 use Rattle.theory_syntax.specs.Plain.{expr_of}
 use Rattle.theory_signs.proofs.polynomials.multiple.Given as goal
 

@@ -1,5 +1,5 @@
 use Rattle.std.proofs.Common.{◌≡◌, drop, MatchOption}
-use Rattle.theory_method.specs.WrittenClaim.{sum_from, polynomial_of}
+use Rattle.theory_formula.specs.WrittenClaim.{sum_from, polynomial_of}
 use Rattle.theory_syntax.specs.Plain.{expr_of}
 use Rattle.theory_signs.proofs.polynomials.polynomial.Given as goal
 

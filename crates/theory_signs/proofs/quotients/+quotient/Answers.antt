@@ -1,7 +1,7 @@
 use Rattle.std.proofs.Common.{IfOk, subst}
-use Rattle.theory_method.specs.RationalPolynomial.{sum_of_quotients, difference_of_quotients, product_of_quotients}
-use Rattle.theory_method.specs.Lowered.{IsFormOf}
-use Rattle.theory_method.specs.LoweringLimits.{IsWideExpr}
+use Rattle.theory_polynomial.specs.RationalPolynomial.{sum_of_quotients, difference_of_quotients, product_of_quotients}
+use Rattle.theory_formula.specs.Lowered.{IsFormOf}
+use Rattle.theory_formula.specs.LoweringLimits.{IsWideExpr}
 use Rattle.theory_poly.specs.Answers.{WideWhere}
 use Rattle.theory_syntax.specs.Plain.{expr_of}
 use Rattle.theory_signs.proofs.FormLaws.{form, combined_value, combined_wide, opposed_wide, raised_wide}

@@ -1,9 +1,9 @@
 use Rattle.std.proofs.Common.{◌≡◌, arith, unsigned_abs, subst, w64}
 use Rattle.std.proofs.lemmas.Int.{ints}
 use mir.Val.{to_z, of_z}
-use Rattle.theory_method.specs.Polynomial.{constant_of, AreSame}
-use Rattle.theory_method.specs.RationalPolynomial.{IsLowestOf}
-use Rattle.theory_method.specs.Lowered.{over}
+use Rattle.theory_polynomial.specs.Polynomial.{constant_of, AreSame}
+use Rattle.theory_polynomial.specs.RationalPolynomial.{IsLowestOf}
+use Rattle.theory_formula.specs.Lowered.{over}
 use Rattle.theory_poly.proofs.QuotientLaws.{lowest_of_same, not_quotient_beyond}
 use Rattle.theory_signs.proofs.quotients.constant.Goals as goal
 

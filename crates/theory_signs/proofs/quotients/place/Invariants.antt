@@ -1,5 +1,5 @@
 use Rattle.std.proofs.Common.{◌≡◌, ◌+◌, drop}
-use Rattle.theory_method.specs.Lowered.{place_of}
+use Rattle.theory_formula.specs.Lowered.{place_of}
 use Rattle.theory_signs.proofs.quotients.place.Given as goal
 
 abbrev pub invariant-loop-i : goal.invariant-loop-i

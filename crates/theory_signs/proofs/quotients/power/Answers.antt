@@ -1,7 +1,7 @@
 use Rattle.std.proofs.Common.{◌≡◌, subst, arith}
-use Rattle.theory_method.specs.RationalPolynomial.{IsQuotientBeyond, product_of_quotients}
-use Rattle.theory_method.specs.Lowered.{IsPowerOf}
-use Rattle.theory_method.specs.LoweringLimits.{IsWidePower}
+use Rattle.theory_polynomial.specs.RationalPolynomial.{IsQuotientBeyond, product_of_quotients}
+use Rattle.theory_formula.specs.Lowered.{IsPowerOf}
+use Rattle.theory_formula.specs.LoweringLimits.{IsWidePower}
 use Rattle.theory_signs.proofs.FormLaws.{passed_on, power_more, power_fits_more, wide_at_last}
 use Rattle.theory_signs.proofs.quotients.power.Goals as goal
 

@@ -1,5 +1,5 @@
-use Rattle.theory_method.specs.Lowered.{IsPowerOf}
-use Rattle.theory_method.specs.LoweringLimits.{IsWidePower}
+use Rattle.theory_formula.specs.Lowered.{IsPowerOf}
+use Rattle.theory_formula.specs.LoweringLimits.{IsWidePower}
 use Rattle.theory_signs.proofs.quotients.power.Given as goal
 
 abbrev pub invariant-loop : goal.invariant-loop

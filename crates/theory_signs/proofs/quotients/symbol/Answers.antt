@@ -1,7 +1,7 @@
 use Rattle.std.proofs.Common.{rules, arith}
-use Rattle.theory_method.specs.Polynomial.{symbol_of}
-use Rattle.theory_method.specs.RationalPolynomial.{IsLowestOf}
-use Rattle.theory_method.specs.Lowered.{over, place_of}
+use Rattle.theory_polynomial.specs.Polynomial.{symbol_of}
+use Rattle.theory_polynomial.specs.RationalPolynomial.{IsLowestOf}
+use Rattle.theory_formula.specs.Lowered.{over, place_of}
 use Rattle.theory_poly.proofs.QuotientLaws.{not_quotient_beyond}
 use Rattle.theory_signs.proofs.quotients.symbol.Goals as goal
 

@@ -1,7 +1,7 @@
 use Rattle.std.proofs.Common.{sym, ap, ◌∙◌, List, arith}
 use Rattle.std.proofs.lemmas.List.{length-map}
-use Rattle.theory_method.specs.Signs.{meet}
-use Rattle.theory_method.specs.declared.signs.Signs.{Signs}
+use Rattle.theory_formula.specs.Signs.{meet}
+use Rattle.theory_formula.specs.declared.signs.Signs.{Signs}
 use Rattle.theory_signs.specs.Condition.{Condition}
 use Rattle.theory_simplify.specs.Parts.{fact_of, facts_of, known_at}
 use Rattle.theory_simplify.proofs.PutLemmas.{known_within, fact_met, fact_unmet, fact_last}

@@ -1,7 +1,7 @@
 use Rattle.std.proofs.Common.{ℕ, List, map, sym, ap, ◌∙◌, ◌++◌, ◌∷◌, []}
 use Rattle.std.specs.List.{list_any}
 use Rattle.std.proofs.lemmas.List.{map-append}
-use Rattle.theory_method.specs.Formula as plain
+use Rattle.theory_formula.specs.Formula as plain
 use Rattle.theory_elimination.specs.SameFormula.{is_same}
 use Rattle.theory_elimination.specs.Simplified.{first_ones}
 use Rattle.theory_simplify.specs.declared.drafts.Draft.{Draft}

@@ -1,5 +1,5 @@
 use Rattle.std.proofs.Common.{◌≡◌, ◌≤◌, ◌++◌, map}
-use Rattle.theory_method.specs.Formula.{formulas_from}
+use Rattle.theory_formula.specs.Formula.{formulas_from}
 use Rattle.theory_simplify.specs.Drafts.{draft_of}
 use Rattle.theory_simplify.specs.Parts.{parts_of, all_flat_parts}
 use Rattle.theory_simplify.proofs.Weights.{parts_weight}

@@ -1,5 +1,5 @@
 use Rattle.std.proofs.Common.{◌≡◌, drop, map}
-use Rattle.theory_method.specs.Formula.{formulas_from}
+use Rattle.theory_formula.specs.Formula.{formulas_from}
 use Rattle.theory_elimination.specs.SameFormula.{are_same}
 use Rattle.theory_simplify.specs.Drafts.{draft_of}
 use Rattle.theory_simplify.proofs.sameness.+same.Given as goal

@@ -1,5 +1,5 @@
 use Rattle.std.proofs.Common.{◌≡◌, List, true, false, IfOk, option_map, map, ap, ◌++◌, sym, ◌∙◌, subst, arith}
-use Rattle.theory_method.specs.Formula.{formulas_from}
+use Rattle.theory_formula.specs.Formula.{formulas_from}
 use Rattle.theory_elimination.specs.Simplified.{members_under, facts_within}
 use Rattle.theory_simplify.specs.declared.drafts.Draft.{Draft}
 use Rattle.theory_signs.specs.Condition.{Condition}

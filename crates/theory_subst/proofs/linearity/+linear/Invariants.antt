@@ -1,5 +1,5 @@
 use Rattle.std.proofs.Common.{◌↔◌, map, drop}
-use Rattle.theory_method.specs.Formula.{EachAtomOfAll, formulas_from}
+use Rattle.theory_formula.specs.Formula.{EachAtomOfAll, formulas_from}
 use Rattle.theory_elimination.specs.Elimination.{IsLinearAtom}
 use Rattle.theory_signs.specs.Plain.{formula_of}
 use Rattle.theory_subst.proofs.linearity.+linear.Given as goal

@@ -1,6 +1,6 @@
 use Rattle.std.proofs.Common.{◌∙◌, sym, [], arith}
 use Rattle.std.specs.Prelude.{pos}
-use Rattle.theory_method.specs.Polynomial.{Monomial, monomial}
+use Rattle.theory_polynomial.specs.Polynomial.{Monomial, monomial}
 use Rattle.theory_subst.proofs.SameLemmas.{other_lengths, same_step, other_term, same_at_end}
 use Rattle.theory_subst.proofs.sameness.are_same_terms.Goals as goal
 

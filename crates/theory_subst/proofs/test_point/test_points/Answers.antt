@@ -1,5 +1,5 @@
 use Rattle.std.proofs.Common.{◌≡◌, ◌∙◌, [], ◌∷◌, ◌++◌, ap}
-use Rattle.theory_method.specs.FormulaAtoms.{atoms_of}
+use Rattle.theory_formula.specs.FormulaAtoms.{atoms_of}
 use Rattle.theory_elimination.specs.TestPoint.{infinity, ends_of_atoms}
 use Rattle.theory_signs.specs.Plain.{formula_of}
 use Rattle.theory_subst.specs.declared.test_point.TestPoint.TheVariants.{Infinity}

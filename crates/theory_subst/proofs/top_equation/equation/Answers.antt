@@ -1,5 +1,5 @@
 use Rattle.std.proofs.Common.{◌≡◌, ◌∙◌, subst, ap, true}
-use Rattle.theory_method.specs.Polynomial.{IsPolynomial, IsLinearIn, IsSplit}
+use Rattle.theory_polynomial.specs.Polynomial.{IsPolynomial, IsLinearIn, IsSplit}
 use Rattle.theory_elimination.specs.Branches.{equation_of, equation_if}
 use Rattle.theory_signs.specs.Plain.{formula_of}
 use Rattle.theory_subst.specs.Equations.{IsLine}
@@ -15,9 +15,9 @@ returns-then-not-is_wanted c =
     let a = c.in_ok-slope-in-Atom.slope in
     let b = c.in_ok-slope-in-Atom.base in
     let F = c.args.formula.now in
-    let split : IsSplit x P a b = subst (λ Q. IsSplit x Q a b) c.poly.ensures.value c.in_ok-slope-in-Atom.ensures in
-    let slope : IsPolynomial a = subst IsPolynomial c.slope.view_is c.slope.invariant.ordered in
-    let base : IsPolynomial b = subst IsPolynomial c.base.view_is c.base.invariant.ordered in
+    let split : IsSplit x P a b = subst (λ Q. IsSplit x Q a b) c.poly.ensures.value c.in_ok-slope-in-Atom.ensures.split in
+    let slope : IsPolynomial a = subst IsPolynomial c.slope.view_is c.slope.invariant.kept.ordered in
+    let base : IsPolynomial b = subst IsPolynomial c.base.view_is c.base.invariant.kept.ordered in
     let linear : IsLinearIn x P = linear_atom x F c.in-Atom.atom c.in-Atom.is c.requires.linear in
     let line : IsLine x P a b = line_is x P a b c.requires.symbol c.poly.ensures.kept.canonical.ordered linear slope base split in
     let own : equation_of x (formula_of F) ≡ equation_if true P =
@@ -32,9 +32,9 @@ returns-else-not-is_wanted c =
     let a = c.in_ok-slope-in-Atom.slope in
     let b = c.in_ok-slope-in-Atom.base in
     let F = c.args.formula.now in
-    let split : IsSplit x P a b = subst (λ Q. IsSplit x Q a b) c.poly.ensures.value c.in_ok-slope-in-Atom.ensures in
-    let slope : IsPolynomial a = subst IsPolynomial c.slope.view_is c.slope.invariant.ordered in
-    let base : IsPolynomial b = subst IsPolynomial c.base.view_is c.base.invariant.ordered in
+    let split : IsSplit x P a b = subst (λ Q. IsSplit x Q a b) c.poly.ensures.value c.in_ok-slope-in-Atom.ensures.split in
+    let slope : IsPolynomial a = subst IsPolynomial c.slope.view_is c.slope.invariant.kept.ordered in
+    let base : IsPolynomial b = subst IsPolynomial c.base.view_is c.base.invariant.kept.ordered in
     let linear : IsLinearIn x P = linear_atom x F c.in-Atom.atom c.in-Atom.is c.requires.linear in
     let line : IsLine x P a b = line_is x P a b c.requires.symbol c.poly.ensures.kept.canonical.ordered linear slope base split in
     let own : equation_of x (formula_of F) ≡ equation_if true P =

@@ -1,5 +1,5 @@
 use Rattle.std.proofs.Common.{◌^◌, subst₂}
-use Rattle.theory_method.specs.Polynomial.{cross_of, IsPolynomialOf}
+use Rattle.theory_polynomial.specs.Polynomial.{cross_of, IsPolynomialOf}
 use Rattle.theory_poly.specs.Kept.{IsGathered}
 use Rattle.theory_poly.proofs.AnswerLaws.{carries_divided, carries_sign, carries_wide}
 use Rattle.theory_poly.proofs.poly.Poly.cross.Goals as goal

@@ -1,5 +1,5 @@
 use Rattle.std.proofs.Common.{◌*◌, ◌^◌, length, subst₂}
-use Rattle.theory_method.specs.Polynomial.{product_of, IsPolynomialOf}
+use Rattle.theory_polynomial.specs.Polynomial.{product_of, IsPolynomialOf}
 use Rattle.theory_poly.specs.Kept.{IsGathered}
 use Rattle.theory_poly.proofs.AnswerLaws.{answers_value, answers_wide}
 use Rattle.theory_poly.proofs.poly.Poly.mul.Goals as goal

@@ -1,9 +1,9 @@
 use Rattle.std.proofs.Common.{sym, subst}
-use Rattle.theory_method.specs.Polynomial.{degree_in, IsPolynomialOf}
-use Rattle.theory_method.specs.PolynomialValue.{restriction_step, IsRestriction}
+use Rattle.theory_polynomial.specs.Polynomial.{degree_in, IsPolynomialOf}
+use Rattle.theory_polynomial.specs.PolynomialValue.{restriction_step, IsRestriction}
 use Rattle.theory_poly.specs.Kept.{IsKept}
 use Rattle.theory_poly.proofs.StepLaws.{unturned_is_primitive}
-use Rattle.theory_method.proofs.SignLaws.{restriction_free, restriction_sign}
+use Rattle.theory_polynomial.proofs.SignLaws.{restriction_free, restriction_sign}
 use Rattle.theory_poly.proofs.poly.Poly.restrict.Goals as goal
 
 -- what is left is the restriction

@@ -1,5 +1,5 @@
 use Rattle.std.proofs.Common.{◌^◌, pos, negsuc, subst₂}
-use Rattle.theory_method.specs.Polynomial.{scaled, sum_of, difference_of, IsPolynomialOf}
+use Rattle.theory_polynomial.specs.Polynomial.{scaled, sum_of, difference_of, IsPolynomialOf}
 use Rattle.theory_poly.specs.Kept.{IsGathered}
 use Rattle.theory_poly.proofs.ScaleLaws.{polynomial_of_same, second_turned}
 use Rattle.theory_poly.proofs.AnswerLaws.{answers_value, answers_wide}

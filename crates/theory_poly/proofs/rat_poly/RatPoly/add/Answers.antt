@@ -1,8 +1,8 @@
 use Rattle.std.proofs.Common.{◌≡◌, ◌*◌, ◌^◌, pos, w64, unsigned_abs, ap₂, ◌∙◌, arith}
 use Rattle.std.proofs.lemmas.Int.{ints}
 use mir.Val.{to_z, of_z}
-use Rattle.theory_method.specs.Polynomial.{AreSame}
-use Rattle.theory_method.specs.RationalPolynomial.{sum_of_quotients}
+use Rattle.theory_polynomial.specs.Polynomial.{AreSame}
+use Rattle.theory_polynomial.specs.RationalPolynomial.{sum_of_quotients}
 use Rattle.theory_poly.proofs.QuotientSums.{top_of_sum, answers_lowest, answers_lowest_wide}
 use Rattle.theory_poly.proofs.rat_poly.RatPoly.add.Goals as goal
 
