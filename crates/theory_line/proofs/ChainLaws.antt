@@ -5,10 +5,10 @@ use Rattle.std.specs.Borrow.{Bor}
 use Rattle.std.proofs.lemmas.List.{map-append, reverse-append}
 use Rattle.theory_meaning.specs.Tree.{Claim}
 use Rattle.theory_grammar.specs.declared.words.Keyword.TheVariants as word
-use Rattle.theory_grammar.specs.Token.{Token, keyword}
+use Rattle.theory_grammar.specs.Token.{keyword}
 use Rattle.theory_grammar.specs.Scan.{IsFit}
 use Rattle.theory_grammar.specs.Spelled.{conjunction_of, disjunction_of}
-use Rattle.theory_grammar.proofs.Machine.{Heading, assumption, ClaimPlace, want_claim, have_claim}
+use Rattle.theory_grammar.specs.Machine.{Heading, assumption, ClaimPlace, want_claim, have_claim}
 use Rattle.theory_syntax.specs.declared.claim.Claim as node
 use Rattle.theory_syntax.specs.Plain.{claim_of, claims_of}
 use Rattle.theory_tokens.specs.declared.token.Token as source

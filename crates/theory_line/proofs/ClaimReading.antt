@@ -8,8 +8,7 @@ use Rattle.theory_grammar.specs.declared.words.Mark.TheVariants as sign
 use Rattle.theory_grammar.specs.declared.words.LineFaultKind.TheVariants.{Unexpected, Deep}
 use Rattle.theory_grammar.specs.Token.{Token, keyword, mark, relation}
 use Rattle.theory_grammar.specs.Spelled.{every, has_room, conjunction_of, disjunction_of}
-use Rattle.theory_grammar.proofs.Machine.{Heading, ClaimPlace, gate, operand, fresh, fresh_claim, want_claim, have_claim, denied, left_of_atom, right_of_atom}
-use Rattle.theory_grammar.proofs.Following.{and_then}
+use Rattle.theory_grammar.specs.Machine.{Heading, ClaimPlace, gate, operand, fresh, fresh_claim, want_claim, have_claim, denied, left_of_atom, right_of_atom, and_then}
 use Rattle.theory_line.specs.Reading.{Reading, stopped, reading}
 use Rattle.theory_line.specs.Behind.{in_claim, behind_expr, behind_disjunct, behind_premise, behind_side, behind_claim}
 use Rattle.theory_line.specs.Claims.{concluded}

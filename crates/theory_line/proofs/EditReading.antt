@@ -8,10 +8,10 @@ use Rattle.theory_meaning.specs.Text.{Op, put_line}
 use Rattle.theory_grammar.specs.declared.words.LineFaultKind.TheVariants.{Unexpected}
 use Rattle.theory_grammar.specs.Token.{Token, name}
 use Rattle.theory_grammar.specs.Spelled.{IsOp}
-use Rattle.theory_grammar.proofs.Machine.{step, ended, start, finished, name_of_model}
+use Rattle.theory_grammar.specs.Machine.{step, ended, start, finished, name_of_model, and_then}
 use Rattle.theory_grammar.proofs.OpMachine.{OpState, OpMove, op_start, putting, key_to_drop, op_word, drop_word, op_step, op_ended}
 use Rattle.theory_grammar.proofs.OpLaws.{op_laws}
-use Rattle.theory_grammar.proofs.Following.{Outcome, read, fault, and_then, reads}
+use Rattle.theory_grammar.proofs.Following.{Outcome, fault, reads}
 use Rattle.theory_syntax.specs.declared.line.Line as source_line
 use Rattle.theory_syntax.specs.declared.text.Op as source_op
 use Rattle.theory_syntax.specs.Plain.{line_of, op_of}

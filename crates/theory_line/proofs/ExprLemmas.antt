@@ -6,9 +6,8 @@ use Rattle.theory_grammar.specs.declared.words.LineFaultKind.TheVariants.{Deep}
 use Rattle.theory_grammar.specs.Token.{Token, mark}
 use Rattle.theory_grammar.specs.Scan.{IsFit}
 use Rattle.theory_grammar.specs.Spelled.{every, has_room}
-use Rattle.theory_grammar.proofs.Machine.{State, Left, plus, minus, Place, Context, gate}
-use Rattle.theory_grammar.proofs.Machine as m
-use Rattle.theory_grammar.proofs.Following.{and_then}
+use Rattle.theory_grammar.specs.Machine.{State, Left, plus, minus, Place, Context, gate, and_then}
+use Rattle.theory_grammar.specs.Machine as m
 use Rattle.theory_line.specs.Reading.{stopped, reading}
 use Rattle.theory_line.specs.Behind.{in_sum, behind_term}
 use Rattle.theory_line.specs.Exprs.{NotMark, addition_mark, summed}

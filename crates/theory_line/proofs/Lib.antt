@@ -2,7 +2,6 @@ pub mod LiteralLemmas
 pub mod FitLemmas
 pub mod ExprLemmas
 pub mod ParsesLemmas
-pub mod ScanLemmas
 pub mod ParsesLaws
 pub mod ClaimReading
 pub mod NodeLemmas

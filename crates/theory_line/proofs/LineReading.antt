@@ -12,8 +12,7 @@ use Rattle.theory_grammar.specs.declared.words.LineFaultKind.TheVariants.{Unexpe
 use Rattle.theory_grammar.specs.Token.{Token, keyword, name, mark, relation}
 use Rattle.theory_grammar.specs.Scan.{IsFit}
 use Rattle.theory_grammar.specs.Spelled.{every}
-use Rattle.theory_grammar.proofs.Machine.{State, Move, Heading, unexpected, step, ended, at_name, at_colon, finished, line_with, first_argument, arguments, label_of_equation, colon_of_equation, label_of_claim, word_of, by_or_colon, claim_of_line, assertion, start, left_of_equation, right_of_equation}
-use Rattle.theory_grammar.proofs.Following.{and_then}
+use Rattle.theory_grammar.specs.Machine.{State, Move, Heading, unexpected, step, ended, at_name, at_colon, finished, line_with, first_argument, arguments, label_of_equation, colon_of_equation, label_of_claim, word_of, by_or_colon, claim_of_line, assertion, start, left_of_equation, right_of_equation, and_then}
 use Rattle.theory_tokens.specs.declared.token.Token as source
 use Rattle.theory_syntax.specs.declared.line.Line as source_line
 use Rattle.theory_syntax.specs.Plain.{line_of}

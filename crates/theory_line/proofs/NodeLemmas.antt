@@ -3,7 +3,7 @@ use Rattle.std.proofs.Common.{◌≡◌, sym, ap, ◌∙◌}
 use Rattle.theory_meaning.specs.declared.words.Rel.{Rel}
 use Rattle.theory_meaning.specs.Tree as plain
 use Rattle.theory_syntax.specs.declared.expr.Expr.{Expr}
-use Rattle.theory_syntax.specs.declared.claim.Claim.{Claim, Claim-F, fold-roll-Claim}
+use Rattle.theory_syntax.specs.declared.claim.Claim.{Claim-F, fold-roll-Claim}
 use Rattle.theory_syntax.specs.declared.claim.Claim.TheVariants.{True, False, Atom, rolls-True, rolls-False, rolls-Atom}
 use Rattle.theory_syntax.specs.Plain.{expr_of, claim_of, claim_step}
 

@@ -6,9 +6,9 @@ use Rattle.theory_meaning.specs.Text.{Op, put_line, drop_key}
 use Rattle.theory_grammar.specs.Token.{Token, name}
 use Rattle.theory_grammar.specs.Spelled.{Limits, every, IsLine}
 use Rattle.theory_grammar.specs.LineFault.{Grammar}
-use Rattle.theory_grammar.proofs.Machine.{State, step, ended, start, name_of_model}
+use Rattle.theory_grammar.specs.Machine.{State, step, ended, start, name_of_model, and_then}
 use Rattle.theory_grammar.proofs.OpMachine.{putting, key_to_drop, op_step, op_ended, within_put, put_ended}
-use Rattle.theory_grammar.proofs.Following.{Outcome, read, fault, Step, and_then, reads, Laws}
+use Rattle.theory_grammar.proofs.Following.{Outcome, read, fault, Step, reads, Laws}
 use Rattle.theory_grammar.proofs.Following as following
 use Rattle.theory_grammar.proofs.LineLaws.{line_laws}
 use Rattle.theory_grammar.proofs.FaultLaws.{read_is_spelled, fault_is_first}

@@ -9,8 +9,7 @@ use Rattle.theory_grammar.specs.declared.words.Keyword.TheVariants as word
 use Rattle.theory_grammar.specs.declared.words.Mark.TheVariants as sign
 use Rattle.theory_grammar.specs.declared.words.LineFaultKind.TheVariants.{Deep}
 use Rattle.theory_grammar.specs.Token.{Token, keyword, mark}
-use Rattle.theory_grammar.proofs.Machine.{State, Heading, ClaimPlace, gate, want_claim, have_claim, fresh_claim, denied}
-use Rattle.theory_grammar.proofs.Following.{and_then}
+use Rattle.theory_grammar.specs.Machine.{State, Heading, ClaimPlace, gate, want_claim, have_claim, fresh_claim, denied, and_then}
 use Rattle.theory_syntax.specs.declared.claim.Claim as node
 use Rattle.theory_syntax.specs.Plain.{claim_of}
 use Rattle.theory_tokens.specs.declared.token.Token as source

@@ -5,7 +5,7 @@ use Rattle.theory_grammar.specs.declared.words.Keyword.TheVariants as word
 use Rattle.theory_grammar.specs.declared.words.Mark.TheVariants as sign
 use Rattle.theory_grammar.specs.Token.{Token, keyword, mark}
 use Rattle.theory_grammar.specs.Spelled.{disjunction_of}
-use Rattle.theory_grammar.proofs.Machine.{Left, plus, minus, Place, fresh, ClaimPlace, Heading, Context, Move, unexpected, operand, want_claim, close_expr, close_claim, second_side, expr_ended, claim_ended, implied, paired}
+use Rattle.theory_grammar.specs.Machine.{Left, plus, minus, Place, fresh, ClaimPlace, Heading, Context, Move, unexpected, operand, want_claim, close_expr, close_claim, second_side, expr_ended, claim_ended, implied, paired}
 use Rattle.theory_line.specs.Reading.{Reading, at_end, reading, reading_on}
 
 -- a place behind this left side of a sum, in so many open signs

@@ -3,7 +3,7 @@ use Rattle.std.specs.Prelude.{◌≡◌, ℕ, List, [], ◌∷◌, Option, Resul
 use Rattle.std.specs.Borrow.{Bor}
 use Rattle.theory_meaning.specs.Tree.{Claim}
 use Rattle.theory_meaning.specs.Tree as plain
-use Rattle.theory_grammar.proofs.Machine.{Heading, ClaimPlace, want_claim, have_claim, fresh_claim, implied}
+use Rattle.theory_grammar.specs.Machine.{Heading, ClaimPlace, want_claim, have_claim, fresh_claim, implied}
 use Rattle.theory_syntax.specs.declared.claim.Claim as node
 use Rattle.theory_syntax.specs.Plain.{claim_of}
 use Rattle.theory_tokens.specs.declared.token.Token as source

@@ -6,7 +6,7 @@ use Rattle.theory_meaning.specs.Tree as plain
 use Rattle.theory_grammar.specs.declared.words.Mark.{Mark}
 use Rattle.theory_grammar.specs.declared.words.Mark.TheVariants as sign
 use Rattle.theory_grammar.specs.Token.{Token, number, mark}
-use Rattle.theory_grammar.proofs.Machine.{Left, Place, Context, fresh, opposed, joined, operand, closed, exponent, below, factored}
+use Rattle.theory_grammar.specs.Machine.{Left, Place, Context, fresh, opposed, joined, operand, closed, exponent, below, factored}
 use Rattle.theory_line.specs.declared.fault.ParseFault.{ParseFault}
 use Rattle.theory_line.specs.declared.front.Addition.{Addition}
 use Rattle.theory_line.specs.declared.front.Addition.TheVariants.{Plus, Minus}

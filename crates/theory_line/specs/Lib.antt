@@ -5,4 +5,4 @@ pub mod Exprs
 pub mod First
 pub mod Claims
 pub mod Lines
-pub mod Told
+pub mod Message

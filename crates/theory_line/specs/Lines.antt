@@ -6,7 +6,7 @@ use Rattle.theory_meaning.specs.Tree.{Line, function}
 use Rattle.theory_grammar.specs.declared.words.Mark.TheVariants as sign
 use Rattle.theory_grammar.specs.Token.{Token, mark}
 use Rattle.theory_grammar.specs.Spelled.{every}
-use Rattle.theory_grammar.proofs.Machine.{State, Move, Heading, step, ended, at_name, at_colon, finished, first_argument, claim_of_line, line_with}
+use Rattle.theory_grammar.specs.Machine.{State, Move, Heading, step, ended, at_name, at_colon, finished, first_argument, claim_of_line, line_with}
 use Rattle.theory_syntax.specs.declared.claim.Claim as node
 use Rattle.theory_syntax.specs.Plain.{claim_of}
 use Rattle.theory_tokens.specs.declared.token.Token as source

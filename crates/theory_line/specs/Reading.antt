@@ -7,8 +7,7 @@ use Rattle.theory_grammar.specs.declared.words.LineFaultKind.TheVariants.{Unexpe
 use Rattle.theory_grammar.specs.Scan.{IsFit}
 use Rattle.theory_grammar.specs.Token.{Token}
 use Rattle.theory_grammar.specs.Spelled.{every}
-use Rattle.theory_grammar.proofs.Machine.{State, Move, step, ended}
-use Rattle.theory_grammar.proofs.Following.{and_then}
+use Rattle.theory_grammar.specs.Machine.{State, Move, step, ended, and_then}
 use Rattle.theory_line.specs.declared.fault.ParseFault.{ParseFault}
 use Rattle.theory_line.specs.declared.fault.ParseFault.TheVariants.{At, Memory}
 use Rattle.theory_tokens.specs.declared.token.Token as source

@@ -1,5 +1,5 @@
 ghost use Rattle.std.specs.Prelude.{◌≡◌, [], ◌∷◌, ◌++◌, IfOk, OnOk, map, reverse};
-ghost use Rattle.theory_grammar.proofs.Machine.{implied};
+ghost use Rattle.theory_grammar.specs.Machine.{implied};
 ghost use Rattle.theory_grammar.specs.Spelled.{conjunction_of, disjunction_of};
 ghost use Rattle.theory_line.specs.Claims.{concluded};
 ghost use Rattle.theory_meaning.specs.Tree as plain;

@@ -1,10 +1,9 @@
 ghost use Rattle.std.specs.Prelude.{ℕ, ◌≤◌, List, All};
 ghost use Rattle.theory_grammar.specs.Scan.{IsFit};
-ghost use Rattle.theory_grammar.proofs.Machine.{Place, Context, fresh, operand};
+ghost use Rattle.theory_grammar.specs.Machine.{Place, Context, fresh, operand};
 ghost use Rattle.theory_line.specs.Reading.{LeavesFit, Parses, reading};
 ghost use Rattle.theory_line.specs.Behind.{behind_expr};
-ghost use Rattle.theory_line.specs.Exprs.{NeedsPrimary, ParsesTerm, ParsesFactor};
-ghost use Rattle.theory_line.specs.Exprs.{ParsesOpposite, ParsesPrimary, ParsesBracketed};
+ghost use Rattle.theory_line.specs.Exprs.{NeedsPrimary, ParsesTerm, ParsesFactor, ParsesOpposite, ParsesPrimary, ParsesBracketed};
 ghost use Rattle.theory_syntax.specs.Plain.{expr_of};
 ghost use Rattle.theory_tokens.specs.Plain.{plain_tokens};
 

@@ -14,9 +14,9 @@ pub enum ParseFault {
 
 impl fmt::Display for ParseFault {
     ghost use Rattle.std.specs.Prelude.{Some};
-    ghost use Rattle.theory_line.specs.Told.{told_by};
+    ghost use Rattle.theory_line.specs.Message.{message_of};
 
-    ghost output = { λ fault. Some (told_by fault) };
+    ghost output = { λ fault. Some (message_of fault) };
 
     fn fmt<W: fmt::Write>(&self, f: &mut fmt::Formatter<W>) -> fmt::Result {
         f.write_str(match self {

@@ -1,7 +1,6 @@
 ghost use Rattle.std.specs.Prelude.{◌≡◌, [], ◌∷◌, MatchOption};
 ghost use Rattle.theory_grammar.specs.Token as plain;
-ghost use Rattle.theory_line.specs.Exprs.{NotMark, NotSummed, NotQuotient};
-ghost use Rattle.theory_line.specs.Exprs.{addition_mark, over_mark};
+ghost use Rattle.theory_line.specs.Exprs.{NotMark, NotSummed, NotQuotient, addition_mark, over_mark};
 ghost use Rattle.theory_tokens.specs.Plain.{plain_tokens};
 
 use theory_grammar::Mark;

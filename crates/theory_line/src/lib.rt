@@ -8,20 +8,14 @@ mod claim_nodes;
 mod claims;
 mod comparisons;
 mod edits;
-#[cfg(test)]
-mod expr_tests;
 mod exprs;
 mod fault;
 mod front;
-#[cfg(test)]
-mod line_tests;
 mod lines;
 mod literals;
 mod names;
 mod next;
 mod nodes;
-#[cfg(test)]
-mod telling_tests;
 
 pub use edits::parse_op;
 pub use fault::ParseFault;

@@ -1,5 +1,5 @@
 ghost use Rattle.std.specs.Prelude.{All};
-ghost use Rattle.theory_grammar.proofs.Machine.{start, name_of_function, label_of_equation, label_of_assumption, label_of_claim};
+ghost use Rattle.theory_grammar.specs.Machine.{start, name_of_function, label_of_equation, label_of_assumption, label_of_claim};
 ghost use Rattle.theory_grammar.specs.Scan.{IsFit};
 ghost use Rattle.theory_grammar.specs.Spelled.{IsLine};
 ghost use Rattle.theory_line.specs.Lines.{IsReadAs, ParsesWhole};

@@ -1,11 +1,12 @@
 -- Edited lines keep their identifiers, and what is answered for the changed lines.
-use Rattle.std.proofs.Common.{◌≡◌, ℕ, ◌+◌, Bool, true, false, cond, List, [], ◌∷◌, Option, Some, None, Result, Ok, Err, Vec, Global, refl, sym, ap, subst, ◌∙◌, ⊎_elim, arith}
+use Rattle.std.proofs.Common.{◌≡◌, ℕ, ◌+◌, Bool, true, false, cond, List, [], ◌∷◌, Option, Some, None, option_map, Result, Ok, Err, Vec, Global, refl, sym, ap, subst, ◌∙◌, ⊎_elim, arith}
 use Rattle.std.specs.Borrow.{Bor}
 use Rattle.std.specs.List.{AllByRecursion}
 use Rattle.theory_meaning.specs.Declarations.{key_of}
+use Rattle.theory_meaning.specs.ModelFault as plain
 use Rattle.theory_meaning.specs.ModelFault.{is_key, model_fault}
 use Rattle.theory_meaning.specs.Edit as edit
-use Rattle.theory_meaning.specs.Edit.{HasIdentifiers, HaveIdentifiers, is_keyed, with_line, without_key, lines_after, changed_lines, lines_alone, and_then}
+use Rattle.theory_meaning.specs.Edit.{HasIdentifiers, HaveIdentifiers, is_keyed, with_line, without_key, lines_after, changed_lines, lines_alone, and_then, PutsIdentifiers, unless_fault, model_of, numbered_from}
 use Rattle.theory_meaning.specs.Point.{Name}
 use Rattle.theory_meaning.specs.Text.{Numbered, Op, put_line, drop_key}
 use Rattle.theory_meaning.specs.Tree.{Line}
@@ -16,7 +17,8 @@ use Rattle.theory_model.specs.declared.faults.ModelFault.{ModelFault}
 use Rattle.theory_model.specs.declared.changing.EditFault.{EditFault}
 use Rattle.theory_model.specs.declared.changing.EditFault.TheVariants.{UnknownKey, ModelLine, After, Memory}
 use Rattle.theory_model.specs.Checked.{fault_of, IsChecked}
-use Rattle.theory_model.specs.Changed.{lent_lines, carried_from, PutsIdentifiers, AreChanged, IsAfterFault, IsEdited}
+use Rattle.theory_model.specs.Changed.{lent_lines, carried_fault, carried_from, AreChanged, IsAfterFault, IsEdited}
+use Rattle.theory_model.proofs.CarriedLemmas.{model_fault_carried, faultless_lines_are_few, few_carried, length_numbered}
 
 -- lines that are answered alike are the same
 abbrev lines_in : Result (List Line) edit.EditFault → List Line → List Line
@@ -28,6 +30,9 @@ same_results r s = r ≡ s
 
 ok_same : (xs ys : List Line) → same_results (Ok xs) (Ok ys) → xs ≡ ys
 ok_same xs ys e = ap (λ r. lines_in r xs) e
+
+some_same : (f g : plain.ModelFault) → Some f ≡ Some g → f ≡ g
+some_same f g e = cc
 
 -- the names of each line are identifiers
 abbrev AllIdentified : List Line → Type 0
@@ -109,15 +114,38 @@ edited-identified lines ops found all puts changed =
 pub edited-fault : (wanted : Result (List Line) edit.EditFault) (found : Vec (Bor source.Line) Global) (checked : List numbered.Numbered)
     (f : ModelFault) (g : EditFault)
     → AreChanged wanted (Ok found) → lines_of checked ≡ carried_from 1 (lent_lines found.items) → IsChecked checked (Err f) → IsAfterFault f g →
-    IsEdited wanted (Err g)
+    IsEdited (model_of wanted) (Err g)
 edited-fault wanted found checked f Memory changed are fault after = tt
 edited-fault (Ok ls) found checked f (After g) changed are fault after =
     ⊎_elim (λ memory. absurd (after.1 memory))
-    (λ is. ap (λ (xs : List Line). model_fault (carried_from 1 xs)) (sym changed) ∙ ap model_fault (sym are) ∙ is
-    ∙ ap (λ (h : ModelFault). Some (fault_of h)) (sym after.0)) fault
+    (λ is. by_fault (model_fault (numbered_from 1 ls)) (sym (model_fault_carried ls)
+    ∙ ap (λ (xs : List Line). model_fault (carried_from 1 xs)) (sym changed) ∙ ap model_fault (sym are) ∙ is)) fault
+  where
+    by_fault : (o : Option plain.ModelFault) → option_map carried_fault o ≡ Some (fault_of f) →
+        IsEdited (unless_fault o (numbered_from 1 ls)) (Err (After g))
+    by_fault None e = absurd (grind (arith, e))
+    by_fault (Some h) e = ap fault_of after.0 ∙ sym (some_same (carried_fault h) (fault_of f) e)
 edited-fault (Err refusal) found checked f (After g) changed are fault after = absurd changed
 edited-fault wanted found checked f (UnknownKey n) changed are fault after = absurd after
 edited-fault wanted found checked f (ModelLine n) changed are fault after = absurd after
+
+-- the checked lines are the model of the edit
+pub edited-model : (wanted : Result (List Line) edit.EditFault) (found : Vec (Bor source.Line) Global) (checked model : List numbered.Numbered)
+    → AreChanged wanted (Ok found) → lines_of checked ≡ carried_from 1 (lent_lines found.items) → IsChecked checked (Ok model) →
+    IsEdited (model_of wanted) (Ok model)
+edited-model (Ok ls) found checked model changed are h =
+    let fine : model_fault (carried_from 1 ls) ≡ None =
+    ap (λ (xs : List Line). model_fault (carried_from 1 xs)) (sym changed) ∙ ap model_fault (sym are) ∙ h.0 in
+    let none = no_fault (model_fault (numbered_from 1 ls)) (sym (model_fault_carried ls) ∙ fine) in
+    let few = faultless_lines_are_few (numbered_from 1 ls) none in
+    let long = length_numbered 1 ls in
+    let lines = ap lines_of h.1 ∙ are ∙ ap (λ (xs : List Line). carried_from 1 xs) changed ∙ few_carried 1 ls (omega (arith, few, long)) in
+    subst (λ o. IsEdited (unless_fault o (numbered_from 1 ls)) (Ok model)) (sym none) lines
+  where
+    no_fault : (o : Option plain.ModelFault) → option_map carried_fault o ≡ None → o ≡ None
+    no_fault None e = refl
+    no_fault (Some f) e = absurd (grind (arith, e))
+edited-model (Err refusal) found checked model changed are h = absurd changed
 
 -- the same changes of equal lines
 pub changed_of : (found : Vec (Bor source.Line) Global) (model lines : List numbered.Numbered) (ops : List Op) → lines ≡ model

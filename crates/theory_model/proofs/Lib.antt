@@ -1,4 +1,5 @@
 pub mod KeyedLemmas
 pub mod FaultLemmas
 pub mod ChangeLemmas
+pub mod CarriedLemmas
 pub mod EditLemmas

@@ -1,20 +1,18 @@
--- Lines that are lent while they are changed, and what an edit of a model answers.
-use Rattle.std.specs.Prelude.{◌≡◌, ◌≢◌, ℕ, ◌+◌, ◌-◌, ◌^◌, min, suc, List, [], ◌∷◌, map, Option, Some, None, option_map, Result, Ok, Err, if◌then◌else◌}
+-- What an edit of a model answers, and lines that are lent while they are changed.
+use Rattle.std.specs.Prelude.{◌≡◌, ◌≢◌, ℕ, ◌+◌, ◌-◌, ◌^◌, min, suc, List, [], ◌∷◌, map, Option, Some, None, option_map, Result, Ok, Err, if◌then◌else◌, Vec}
 use Rattle.std.specs.Borrow.{Bor}
-use Rattle.std.specs.Prelude.{Vec}
 use Rattle.std.specs.Global.{Global}
 use Rattle.theory_meaning.specs.Declarations.{key_of}
-use Rattle.theory_meaning.specs.ModelFault.{is_key, model_fault}
+use Rattle.theory_meaning.specs.ModelFault as plain
+use Rattle.theory_meaning.specs.ModelFault.{is_key}
 use Rattle.theory_meaning.specs.Edit as edit
-use Rattle.theory_meaning.specs.Edit.{lines_alone, changed_lines, HasIdentifiers}
 use Rattle.theory_meaning.specs.Point.{Name}
 use Rattle.theory_meaning.specs.Text as text
 use Rattle.theory_meaning.specs.Tree.{Line}
 use Rattle.theory_meaning.specs.declared.words.ModelKind.TheVariants as kind
 use Rattle.theory_syntax.specs.declared.line.Line as source
 use Rattle.theory_syntax.specs.declared.text.Numbered as numbered
-use Rattle.theory_syntax.specs.declared.text.Op as op
-use Rattle.theory_syntax.specs.Plain.{line_of, lines_of, ops_of}
+use Rattle.theory_syntax.specs.Plain.{line_of, lines_of}
 use Rattle.theory_model.specs.Checked.{fault_of}
 use Rattle.theory_model.specs.declared.faults.ModelFault.{ModelFault}
 use Rattle.theory_model.specs.declared.changing.EditFault.{EditFault}
@@ -33,16 +31,25 @@ place_of_line key (line ∷ lines) = if is_key key (key_of line) then Some 0 els
 abbrev pub carried : ℕ → ℕ
 carried n = min n (2 ^ 32 - 1)
 
+-- the fault of a model with the number of its line as it is carried
+abbrev pub carried_fault : plain.ModelFault → plain.ModelFault
+carried_fault f = record { kind = f.kind; at = carried f.at }
+
 -- lines with the numbers of their places, as they are carried; the first has this number
 abbrev pub carried_from : ℕ → List Line → List text.Numbered
 carried_from n [] = []
 carried_from n (line ∷ lines) = record { at = carried n; line = line } ∷ carried_from (n + 1) lines
 
+-- a fault of the changed lines, with the number of its line as it is carried
+abbrev pub IsCarriedFault : plain.ModelFault → EditFault → Type 0
+IsCarriedFault f (After g) = fault_of g ≡ carried_fault f
+IsCarriedFault f fault = ⊥
+
 -- the refusal as it is defined, with the number that is carried
-abbrev pub IsRefusal : edit.EditFault → EditFault → Type 0
-IsRefusal (edit.unknown_key n) fault = fault ≡ UnknownKey (carried n)
-IsRefusal (edit.model_line n) fault = fault ≡ ModelLine (carried n)
-IsRefusal (edit.after f) fault = ⊥
+abbrev pub IsEditRefusal : edit.EditFault → EditFault → Type 0
+IsEditRefusal (edit.unknown_key n) fault = fault ≡ UnknownKey (carried n)
+IsEditRefusal (edit.model_line n) fault = fault ≡ ModelLine (carried n)
+IsEditRefusal (edit.after f) fault = IsCarriedFault f fault
 
 -- the lines are now these, or the refusal is this one; but memory may run out
 abbrev pub IsChanged : Result (List Line) edit.EditFault → List Line → Result (Unit {0}) EditFault → Type 0
@@ -50,7 +57,7 @@ IsChanged wanted new (Err Memory) = Unit {0}
 IsChanged (Ok lines) new (Ok _) = new ≡ lines
 IsChanged (Ok lines) new (Err fault) = ⊥
 IsChanged (Err refusal) new (Ok _) = ⊥
-IsChanged (Err refusal) new (Err fault) = IsRefusal refusal fault
+IsChanged (Err refusal) new (Err fault) = IsEditRefusal refusal fault
 
 -- the lines are now these; but memory may run out
 abbrev pub IsPut : List Line → List Line → Result (Unit {0}) EditFault → Type 0
@@ -63,7 +70,7 @@ AreChanged wanted (Err Memory) = Unit {0}
 AreChanged (Ok lines) (Ok found) = lent_lines found.items ≡ lines
 AreChanged (Ok lines) (Err fault) = ⊥
 AreChanged (Err refusal) (Ok found) = ⊥
-AreChanged (Err refusal) (Err fault) = IsRefusal refusal fault
+AreChanged (Err refusal) (Err fault) = IsEditRefusal refusal fault
 
 -- the fault of the changed lines is handed on; want of memory below is want of memory
 abbrev pub IsAfterFault : ModelFault → EditFault → Type 0
@@ -72,21 +79,10 @@ IsAfterFault f Memory = f.kind ≡ kind.Memory
 IsAfterFault f (UnknownKey n) = ⊥
 IsAfterFault f (ModelLine n) = ⊥
 
--- the lines that are put have identifiers
-abbrev pub PutsIdentifiers : List text.Op → Type 0
-PutsIdentifiers [] = Unit {0}
-PutsIdentifiers (text.put_line line ∷ ops) = HasIdentifiers line × PutsIdentifiers ops
-PutsIdentifiers (text.drop_key key ∷ ops) = PutsIdentifiers ops
-
--- the model of the changed lines, or why there is none
-abbrev pub IsEdited : Result (List Line) edit.EditFault → Result (List numbered.Numbered) EditFault → Type 0
+-- the model is these lines, or the refusal is this one; but memory may run out
+abbrev pub IsEdited : Result (List text.Numbered) edit.EditFault → Result (List numbered.Numbered) EditFault → Type 0
 IsEdited wanted (Err Memory) = Unit {0}
-IsEdited (Ok lines) (Ok model) = (lines_of model ≡ carried_from 1 lines) × (model_fault (carried_from 1 lines) ≡ None)
-IsEdited (Ok lines) (Err (After f)) = model_fault (carried_from 1 lines) ≡ Some (fault_of f)
+IsEdited (Ok lines) (Ok model) = lines_of model ≡ lines
 IsEdited (Ok lines) (Err fault) = ⊥
 IsEdited (Err refusal) (Ok model) = ⊥
-IsEdited (Err refusal) (Err fault) = IsRefusal refusal fault
-
--- the same for the lines of a model and operations in order
-abbrev pub IsApplied : List numbered.Numbered → List op.Op → Result (List numbered.Numbered) EditFault → Type 0
-IsApplied model ops = IsEdited (changed_lines 1 (ops_of ops) (lines_alone (lines_of model)))
+IsEdited (Err refusal) (Err fault) = IsEditRefusal refusal fault

@@ -79,5 +79,5 @@ least_kind_of firsts beyond =
 
 -- the same lines where no fault applies, else the first fault; but memory may run out
 abbrev pub IsChecked : List source.Numbered → Result (List source.Numbered) ModelFault → Type 0
-IsChecked lines (Ok model) = (model_fault (lines_of lines) ≡ None) × (lines_of model ≡ lines_of lines)
+IsChecked lines (Ok model) = (model_fault (lines_of lines) ≡ None) × (model ≡ lines)
 IsChecked lines (Err f) = (f.kind ≡ Memory) ⊎ (model_fault (lines_of lines) ≡ Some (fault_of f))

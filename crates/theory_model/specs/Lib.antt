@@ -6,4 +6,4 @@ pub mod Findings
 pub mod Counted
 pub mod Checked
 pub mod Changed
-pub mod Told
+pub mod Message

@@ -1,10 +1,10 @@
 ghost use Rattle.std.specs.Prelude.{◌≡◌, ◌+◌, ◌<◌, length, IfOk, IfSome};
 ghost use Rattle.theory_meaning.specs.Declarations as declarations;
 ghost use Rattle.theory_meaning.specs.Edit as edit;
-ghost use Rattle.theory_meaning.specs.Edit.{lines_alone, with_line};
+ghost use Rattle.theory_meaning.specs.Edit.{lines_alone, with_line, PutsIdentifiers};
 ghost use Rattle.theory_meaning.specs.ModelFault.{is_key};
 ghost use Rattle.theory_syntax.specs.Plain.{line_of, lines_of, op_of, ops_of};
-ghost use Rattle.theory_model.specs.Changed.{lent_lines, place_of_line, carried, carried_from, PutsIdentifiers, IsApplied, IsAfterFault, AreChanged, IsChanged, IsPut};
+ghost use Rattle.theory_model.specs.Changed.{lent_lines, place_of_line, carried, carried_from, IsEdited, IsAfterFault, AreChanged, IsChanged, IsPut};
 
 use crate::checking::check;
 use crate::faults::ModelFault;
@@ -32,9 +32,9 @@ pub enum EditFault {
 
 impl fmt::Display for EditFault {
     ghost use Rattle.std.specs.Prelude.{Some};
-    ghost use Rattle.theory_model.specs.Told.{told_by};
+    ghost use Rattle.theory_model.specs.Message.{message_of};
 
-    ghost output = { λ fault. Some (told_by fault) };
+    ghost output = { λ fault. Some (message_of fault) };
 
     fn fmt<W: fmt::Write>(&self, f: &mut fmt::Formatter<W>) -> fmt::Result {
         f.write_str(match self {
@@ -51,7 +51,7 @@ impl Error for EditFault {}
 /// The model whose lines are changed by the operations in their order, and numbered by their place.
 pub fn apply(alloc: Global, model: &Model, ops: &[Op]) -> Result<Model, EditFault>
     requires { PutsIdentifiers (ops_of ops.now) }
-    ensures { IsApplied model.now ops.now result }
+    ensures { IsEdited (edit.edited (ops_of ops.now) (lines_of model.now)) result }
 {
     let lines = text_of(model).as_slice();
     let changed = match changed_lines(alloc, lines, ops) {
@@ -62,7 +62,7 @@ pub fn apply(alloc: Global, model: &Model, ops: &[Op]) -> Result<Model, EditFaul
         Ok(numbered) => numbered,
         Err(_) => return Err(EditFault::Memory),
     };
-    match check(alloc, &numbered) {
+    match check(alloc, numbered) {
         Ok(model) => Ok(model),
         Err(fault) => Err(after(fault)),
     }

@@ -20,17 +20,14 @@ use theory_syntax::{Line, Lines, Numbered};
 const MOST_LINES: usize = 200;
 
 /// The model of exactly these lines with their numbers, or the first kind of fault of them.
-pub fn check(alloc: Global, lines: &[Numbered]) -> Result<Model, ModelFault>
-    requires { HaveIdentifiers (lines_of lines.now) }
-    ensures { IsChecked lines.now result }
+pub fn check(alloc: Global, lines: Lines) -> Result<Model, ModelFault>
+    requires { HaveIdentifiers (lines_of lines.items) }
+    ensures { IsChecked lines.items result }
 {
-    match first_fault(alloc, lines) {
+    match first_fault(alloc, lines.as_slice()) {
         Err(_) => Err(memory()),
         Ok(Some(fault)) => Err(fault),
-        Ok(None) => match copy_lines(alloc, lines) {
-            Ok(lines) => Ok(Model::new(lines)),
-            Err(_) => Err(memory()),
-        },
+        Ok(None) => Ok(Model::new(lines)),
     }
 }
 
@@ -41,20 +38,6 @@ fn memory() -> ModelFault
         kind: ModelKind::Memory,
         at: 1,
     }
-}
-
-/// Equal lines with the same numbers.
-fn copy_lines(alloc: Global, lines: &[Numbered]) -> Result<Lines, NoMemory>
-    ensures { IfOk result (λ copies. lines_of copies.items ≡ lines_of lines.now) }
-{
-    let mut copies = Vec::new(alloc);
-    for numbered in lines {
-        copies.push(Numbered {
-            at: numbered.at,
-            line: numbered.line.copy(alloc)?,
-        })?;
-    }
-    Ok(copies)
 }
 
 /// The first kind of fault that applies to the lines, at its first line.

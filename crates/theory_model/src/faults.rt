@@ -1,5 +1,5 @@
 ghost use Rattle.std.specs.Prelude.{◌≡◌};
-ghost use Rattle.theory_model.specs.Told.{printed_kind};
+ghost use Rattle.theory_model.specs.Message.{printed_kind};
 
 use std::error::Error;
 use std::fmt;
@@ -15,7 +15,7 @@ pub struct ModelFault {
 
 impl fmt::Display for ModelFault {
     ghost use Rattle.std.specs.Prelude.{Some};
-    ghost use Rattle.theory_model.specs.Told.{printed_kind};
+    ghost use Rattle.theory_model.specs.Message.{printed_kind};
 
     ghost output = { λ fault. Some (printed_kind fault.kind) };
 

@@ -1,11 +1,10 @@
 ghost use Rattle.std.specs.Prelude.{◌≡◌, [], ◌∷◌, map, MatchBool};
 ghost use Rattle.std.specs.List.{AllByRecursion, list_all, list_any};
 ghost use Rattle.std.specs.Str.{bytes_eq};
-ghost use Rattle.theory_meaning.specs.Edit.{HasIdentifiers, HaveIdentifiers};
+ghost use Rattle.theory_meaning.specs.Edit.{HasIdentifiers, HaveIdentifiers, PutsIdentifiers};
 ghost use Rattle.theory_meaning.specs.Identifier as plain;
 ghost use Rattle.theory_meaning.specs.Identifier.{IsIdentifier};
 ghost use Rattle.theory_syntax.specs.Plain.{line_of, lines_of, ops_of};
-ghost use Rattle.theory_model.specs.Changed.{PutsIdentifiers};
 
 use theory_points::Name;
 use theory_syntax::{Line, Numbered, Op};

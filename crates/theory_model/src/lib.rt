@@ -6,23 +6,13 @@
 #![tactic(auto)]
 
 mod changing;
-#[cfg(test)]
-mod changing_tests;
 mod checking;
 mod faults;
 mod identifiers;
 mod judging;
 mod keys;
-#[cfg(test)]
-mod limits_tests;
 mod listing;
 mod model;
-#[cfg(test)]
-mod rows;
-#[cfg(test)]
-mod telling_tests;
-#[cfg(test)]
-mod tests;
 mod uses;
 
 pub use changing::{EditFault, apply};

@@ -8,10 +8,6 @@ mod claim;
 mod expr;
 mod line;
 mod parts;
-#[cfg(test)]
-mod postfix;
-#[cfg(test)]
-mod tests;
 
 pub use claim::print_claim;
 pub use expr::print_expr;

@@ -1,6 +1,7 @@
 ghost use Rattle.std.specs.Prelude.{◌≡◌, ◌++◌, OnOk, codes, decimal};
 ghost use Rattle.std.specs.Fmt.{signed_decimal};
-ghost use Rattle.theory_grammar.specs.Printed.{fraction_text, unless};
+ghost use Rattle.theory_grammar.specs.Printed.{unless};
+ghost use Rattle.theory_meaning.specs.Printed.{fraction_text};
 ghost use Rattle.theory_grammar.specs.Signs.{relation_bytes};
 
 use std::alloc::Global;

@@ -14,9 +14,9 @@ IsTruth c p (Ok t) = (t ≡ truth_of c p) × ¬ HasWidePart c p
 IsTruth c p (Err _) = HasWidePart c p
 
 -- this truth where nothing passes the bound, and none exactly where something does
-abbrev pub IsTold : Type 0 → Bool → Option Bool → Type 0
-IsTold Passes t (Some found) = (found ≡ t) × ¬ Passes
-IsTold Passes t None = Passes
+abbrev pub IsTruthWhere : Type 0 → Bool → Option Bool → Type 0
+IsTruthWhere Passes t (Some found) = (found ≡ t) × ¬ Passes
+IsTruthWhere Passes t None = Passes
 
 -- a fraction in lowest terms that is this value, where nothing passes the bound
 pub record IsValue (Passes : Type 0) (v found : Fraction) : Type 0 where

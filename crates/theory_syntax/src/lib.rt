@@ -9,8 +9,6 @@ mod claim;
 mod copying;
 mod expr;
 mod line;
-#[cfg(test)]
-mod tests;
 mod text;
 mod truth;
 

@@ -5,7 +5,7 @@ ghost use Rattle.theory_meaning.specs.Truth.{value_of, truth_of, holds, all_of, 
 ghost use Rattle.theory_meaning.specs.Wide.{HasWideValue, HasWidePart, SomeHasWidePart};
 ghost use Rattle.theory_points.specs.Parts.{IsKept};
 ghost use Rattle.theory_syntax.specs.Plain.{expr_of, claim_of, members_of};
-ghost use Rattle.theory_syntax.specs.Valued.{IsTruth, IsTold, IsValued};
+ghost use Rattle.theory_syntax.specs.Valued.{IsTruth, IsTruthWhere, IsValued};
 
 use crate::claim::Claim;
 use crate::expr::Expr;
@@ -27,7 +27,7 @@ pub fn truth_at(claim: &Claim, point: &Point) -> Result<bool, Wide>
 /// The same, with None for Wide.
 #[cycle(truth)]
 fn truth(claim: &Claim, point: &Point) -> Option<bool>
-    ensures { IsTold (HasWidePart (claim_of claim.now) point.now)
+    ensures { IsTruthWhere (HasWidePart (claim_of claim.now) point.now)
         (truth_of (claim_of claim.now) point.now) result }
 {
     match claim {
@@ -45,7 +45,7 @@ fn truth(claim: &Claim, point: &Point) -> Option<bool>
 /// Whether every claim of a list is true; none is left out.
 #[cycle(truth)]
 fn all_true(claims: &[Claim], point: &Point) -> Option<bool>
-    ensures { IsTold (SomeHasWidePart (members_of claims.now) point.now)
+    ensures { IsTruthWhere (SomeHasWidePart (members_of claims.now) point.now)
         (all_of (members_of claims.now) point.now) result }
 {
     let mut all = true;
@@ -58,7 +58,7 @@ fn all_true(claims: &[Claim], point: &Point) -> Option<bool>
 /// Whether some claim of a list is true; none is left out.
 #[cycle(truth)]
 fn some_true(claims: &[Claim], point: &Point) -> Option<bool>
-    ensures { IsTold (SomeHasWidePart (members_of claims.now) point.now)
+    ensures { IsTruthWhere (SomeHasWidePart (members_of claims.now) point.now)
         (some_of (members_of claims.now) point.now) result }
 {
     let mut some = false;

@@ -1,16 +1,13 @@
 -- What one line is read as: nothing, a tree, or its first fault.
 use Rattle.std.proofs.Common.{◌≡◌, inl, inr, ℕ, zero, suc, ◌+◌, ◌-◌, ◌<◌, ◌≤◌, true, false, List, [], ◌∷◌, length, Option, Ok, Err, refl, sym, ap, ◌∙◌, subst, arith}
-use Rattle.std.specs.Prelude.{Result, All, slice_index}
+use Rattle.std.specs.Prelude.{Result, slice_index}
 use Rattle.std.specs.Result.{IsErrAnd}
 use Rattle.std.proofs.lemmas.List.{length-map}
-use Rattle.std.proofs.lemmas.List.Elements.{All-cons, All-nil}
 use Rattle.theory_grammar.specs.declared.unreadable.Unreadable.{Unreadable}
 use Rattle.theory_grammar.specs.declared.words.LineFaultKind.{LineFaultKind}
 use Rattle.theory_grammar.specs.LineFault.{Grammar, FirstFault}
-use Rattle.theory_grammar.specs.Scan.{Placed, IsFit}
 use Rattle.theory_grammar.specs.Spelled.{every}
 use Rattle.theory_grammar.specs.TextFault.{kind_of_token, tokens_of, column_at, IsScanned, SpellsOne, LineFails, too_long, at_token, at_end, at_bytes}
-use Rattle.theory_grammar.proofs.FitLaws.{reads_fit}
 use Rattle.theory_grammar.proofs.LineOutcomes.{HasOneOutcome}
 use Rattle.theory_line.specs.Parsed.{IsParsed, FaultLeaves}
 use Rattle.theory_line.specs.declared.fault.ParseFault.{ParseFault}
@@ -20,7 +17,7 @@ use Rattle.theory_tokens.specs.declared.line.End.TheVariants.{Complete, Broken}
 use Rattle.theory_tokens.specs.declared.line.Scanned.{Scanned}
 use Rattle.theory_tokens.specs.declared.token.Token.{Token}
 use Rattle.theory_tokens.specs.Plain.{plain_token, plain_tokens}
-use Rattle.theory_tokens.specs.Scanned.{placed_of, end_of, IsScan}
+use Rattle.theory_tokens.specs.Scanned.{placed_of, end_of}
 use Rattle.theory_text.specs.declared.error.TextError.{TextError}
 use Rattle.theory_text.specs.LineRead.{TellsLineFault, IsLineRead, bytes_error, ended, end_error, left_error, IsWhole, IsShortScan, IsScanOrLong, has_nothing}
 
@@ -41,22 +38,6 @@ placed_column [] (c ∷ cs) end k even below = absurd (omega arith)
 placed_column (t ∷ ts) [] end k even below = absurd (omega arith)
 placed_column (t ∷ ts) (c ∷ cs) end zero even below = refl
 placed_column (t ∷ ts) (c ∷ cs) end (suc k) even below = placed_column ts cs end k (omega arith) (omega arith)
-
-placed_fit : (ts : List Token) (cs : List ℕ) → length ts ≡ length cs → All (λ p. IsFit p.token) (placed_of ts cs) → All IsFit (plain_tokens ts)
-placed_fit [] cs even h = All-nil IsFit
-placed_fit (t ∷ ts) [] even h = absurd (omega arith)
-placed_fit (t ∷ ts) (c ∷ cs) even h =
-    let first : Placed = record { column = c; token = plain_token t } in
-    let head : IsFit (plain_token t) = h 0 first (omega arith) in
-    All-cons IsFit (plain_token t) (plain_tokens ts) head (placed_fit ts cs (omega arith) (λ k d below. h (suc k) d (omega arith)))
-
--- tokens that are scanned are fit for a line
-pub short_scan : (bytes : List ℕ) (s : Scanned) → length bytes ≤ 1024 → IsScan bytes s → IsShortScan bytes s
-short_scan bytes s short scan = record {
-  short = short;
-  scan = scan;
-  fit = placed_fit s.tokens.items s.columns.items scan.even (reads_fit 1 bytes _ (end_of s.end) scan.reads);
-}
 
 -- a line with no token
 pub nothing_read : (bytes : List ℕ) (s : Scanned) → IsShortScan bytes s → (ts : List Token) (e : End) → s.tokens.items ≡ ts → s.end ≡ e →

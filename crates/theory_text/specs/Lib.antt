@@ -1,3 +1,4 @@
+pub use Rattle.theory_meaning.specs.Edit
 pub use Rattle.theory_grammar.specs.TextFault
 pub use Rattle.theory_grammar.specs.Texts
 pub mod Answers
@@ -5,4 +6,4 @@ pub mod Cut
 pub mod Checked
 pub mod LineRead
 pub mod Added
-pub mod Told
+pub mod Message

@@ -1,6 +1,6 @@
 ghost use Rattle.std.specs.Prelude.{◌≡◌};
 ghost use Rattle.theory_grammar.specs.declared.text_kind.TextKind.TheVariants.{Memory};
-ghost use Rattle.theory_text.specs.Told.{printed_kind};
+ghost use Rattle.theory_text.specs.Message.{printed_kind};
 
 use std::alloc::AllocFailed;
 use std::error::Error;
@@ -20,7 +20,7 @@ pub struct TextError {
 
 impl fmt::Display for TextError {
     ghost use Rattle.std.specs.Prelude.{Some};
-    ghost use Rattle.theory_text.specs.Told.{printed_kind};
+    ghost use Rattle.theory_text.specs.Message.{printed_kind};
 
     ghost output = { λ error. Some (printed_kind error.kind) };
 

@@ -10,12 +10,6 @@ mod error;
 mod one_line;
 mod placing;
 mod reading;
-#[cfg(test)]
-mod reading_tests;
-#[cfg(test)]
-mod telling_tests;
-#[cfg(test)]
-mod tests;
 mod whole;
 
 pub use error::{TextError, kind_name};

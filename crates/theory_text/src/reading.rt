@@ -1,6 +1,6 @@
-ghost use Rattle.std.specs.Prelude.{◌≤◌, IfOk, length};
+ghost use Rattle.std.specs.Prelude.{◌≤◌, IfOk, IfSome, length};
 ghost use Rattle.std.specs.Option.{option_map};
-ghost use Rattle.theory_meaning.specs.Edit.{HaveIdentifiers};
+ghost use Rattle.theory_meaning.specs.Edit.{HasIdentifiers, HaveIdentifiers, PutsIdentifiers};
 ghost use Rattle.theory_grammar.specs.Spelled.{IsLine, IsOp};
 ghost use Rattle.theory_grammar.specs.Texts.{with_number, without_number, SpellsLines, IsFirstFault, SpellsOps, IsFirstOpsFault, SpellsOneLine, IsFirstLineFault};
 ghost use Rattle.theory_syntax.specs.Plain.{line_of, lines_of, ops_of};
@@ -51,6 +51,9 @@ fn add_line(alloc: Global, lines: &mut Lines, number: u32, bytes: &[u8]) -> Resu
 /// The operations of an edit text.
 pub fn read_ops(alloc: Global, bytes: &[u8]) -> Result<Ops, TextError>
     ensures exact { IsReadAs SpellsOps IsFirstOpsFault (λ ops. ops_of ops.items) bytes.now result }
+
+    // Names, labels, arguments and shifts of the lines that are put are identifiers.
+    ensures identifiers { IfOk result (λ ops. PutsIdentifiers (ops_of ops.items)) }
 {
     check_text(bytes)?;
     let mut ops = Vec::new(alloc);
@@ -79,6 +82,10 @@ fn add_op(alloc: Global, ops: &mut Ops, number: u32, bytes: &[u8]) -> Result<(),
 /// The line that the bytes are, or None where they are blanks and a comment.
 pub fn read_line(alloc: Global, bytes: &[u8]) -> Result<Option<Line>, TextError>
     ensures exact { IsReadAs SpellsOneLine IsFirstLineFault (option_map line_of) bytes.now result }
+
+    // Names, labels, arguments and shifts are identifiers.
+    ensures identifiers { IfOk result (λ read.
+        IfSome read (λ line. HasIdentifiers (line_of line))) }
 {
     check_line(bytes)?;
     let line = one_line(alloc, 1, bytes)?;

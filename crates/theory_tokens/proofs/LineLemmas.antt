@@ -1,13 +1,16 @@
 -- Tokens of a line that are read one after another.
 use Rattle.std.proofs.Common.{◌≡◌, ℕ, suc, ◌+◌, ◌-◌, ◌≤◌, true, false, List, [], ◌∷◌, ◌++◌, length, refl, sym, ap, ◌∙◌, subst, arith, append_assoc, length-append}
+use Rattle.std.specs.Prelude.{All}
 use Rattle.std.specs.List.{list_all}
 use Rattle.std.proofs.lemmas.Bool.{and_parts}
 use Rattle.std.proofs.lemmas.List.{append-nil, length_push}
+use Rattle.std.proofs.lemmas.List.Elements.{All-cons, All-nil}
 use Rattle.theory_grammar.specs.Runs.{first_passes, IsRun}
 use Rattle.theory_grammar.specs.Scan as plain
-use Rattle.theory_grammar.specs.Scan.{is_blank, Placed, Reads, ReadsLine, blank}
+use Rattle.theory_grammar.specs.Scan.{is_blank, Placed, Reads, ReadsLine, blank, IsFit}
+use Rattle.theory_grammar.proofs.FitLaws.{reads_fit}
 use Rattle.theory_tokens.specs.declared.token.Token.{Token}
-use Rattle.theory_tokens.specs.Plain.{plain_token}
+use Rattle.theory_tokens.specs.Plain.{plain_token, plain_tokens}
 use Rattle.theory_tokens.specs.Next.{Takes}
 use Rattle.theory_tokens.specs.Scanned.{placed_of, IsBehindBlanks}
 
@@ -69,6 +72,20 @@ one_more_leads ps p after behind rest line first takes at blanks =
 pub all_led : (ps : List Placed) (e : plain.End) (rest line : List ℕ) → Leads ps rest line → Reads (length line - length rest + 1) rest [] e →
     ReadsLine line ps e
 all_led ps e rest line first last = subst (λ (qs : List Placed). Reads 1 line qs e) (append-nil ps) (first.reads [] e last)
+
+-- tokens are fit where those with columns are
+placed_fit : (ts : List Token) (cs : List ℕ) → length ts ≡ length cs → All (λ p. IsFit p.token) (placed_of ts cs) → All IsFit (plain_tokens ts)
+placed_fit [] cs even h = All-nil IsFit
+placed_fit (t ∷ ts) [] even h = absurd (omega arith)
+placed_fit (t ∷ ts) (c ∷ cs) even h =
+    let first : Placed = record { column = c; token = plain_token t } in
+    let head : IsFit (plain_token t) = h 0 first (omega arith) in
+    All-cons IsFit (plain_token t) (plain_tokens ts) head (placed_fit ts cs (omega arith) (λ k d below. h (suc k) d (omega arith)))
+
+-- the tokens of a line that is read are fit
+pub read_fit : (line : List ℕ) (ts : List Token) (cs : List ℕ) (e : plain.End) → length ts ≡ length cs → ReadsLine line (placed_of ts cs) e →
+    All IsFit (plain_tokens ts)
+read_fit line ts cs e even reads = placed_fit ts cs even (reads_fit 1 line (placed_of ts cs) e reads)
 
 -- one more token with its column
 pub placed_push : (ts : List Token) (cs : List ℕ) (t : Token) (c : ℕ) → length ts ≡ length cs →

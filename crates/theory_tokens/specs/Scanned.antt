@@ -1,13 +1,13 @@
 -- A scanned line as the reading that it stands for.
-use Rattle.std.specs.Prelude.{◌≡◌, ℕ, ◌+◌, ◌-◌, ◌≤◌, false, List, [], ◌∷◌, length}
+use Rattle.std.specs.Prelude.{◌≡◌, ℕ, ◌+◌, ◌-◌, ◌≤◌, false, List, [], ◌∷◌, length, All}
 use Rattle.theory_grammar.specs.Runs.{first_passes}
 use Rattle.theory_grammar.specs.Scan as plain
-use Rattle.theory_grammar.specs.Scan.{is_blank, Placed, ReadsLine, Reads}
+use Rattle.theory_grammar.specs.Scan.{is_blank, Placed, ReadsLine, Reads, IsFit}
 use Rattle.theory_tokens.specs.declared.token.Token.{Token}
 use Rattle.theory_tokens.specs.declared.line.End.{End}
 use Rattle.theory_tokens.specs.declared.line.End.TheVariants.{Complete, Broken}
 use Rattle.theory_tokens.specs.declared.line.Scanned.{Scanned}
-use Rattle.theory_tokens.specs.Plain.{plain_token}
+use Rattle.theory_tokens.specs.Plain.{plain_token, plain_tokens}
 
 -- tokens with their columns beside them
 abbrev pub placed_of : List Token → List ℕ → List Placed
@@ -24,6 +24,10 @@ end_of (Broken why c) = plain.broken why c
 pub record IsScan (line : List ℕ) (s : Scanned) : Type 0 where
   pub even : length s.tokens.items ≡ length s.columns.items
   pub reads : ReadsLine line (placed_of s.tokens.items s.columns.items) (end_of s.end)
+
+-- each of its names is an identifier, and each number within the bound of literals
+abbrev pub HasFitTokens : Scanned → Type 0
+HasFitTokens s = All IsFit (plain_tokens s.tokens.items)
 
 -- what stands behind blanks at the front, where no further blank does
 pub record IsBehindBlanks (rest bytes : List ℕ) : Type 0 where

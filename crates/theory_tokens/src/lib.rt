@@ -9,8 +9,6 @@ mod line;
 mod next;
 mod number;
 mod run;
-#[cfg(test)]
-mod tests;
 mod token;
 mod word;
 

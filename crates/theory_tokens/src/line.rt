@@ -1,7 +1,7 @@
 ghost use Rattle.std.specs.Prelude.{◌≤◌, length, IfOk};
 ghost use Rattle.theory_grammar.specs.Runs.{IsRun, first_passes};
 ghost use Rattle.theory_grammar.specs.Scan.{is_blank};
-ghost use Rattle.theory_tokens.specs.Scanned.{IsScan, IsBehindBlanks};
+ghost use Rattle.theory_tokens.specs.Scanned.{IsScan, HasFitTokens, IsBehindBlanks};
 
 use crate::next::{Next, next_token};
 use crate::run::{Kind, split_run};
@@ -31,7 +31,10 @@ pub struct Scanned<'a> {
 /// Reads the bytes of a line, no more than a text has, as tokens up to its end or to a fault.
 pub fn scan_line<'a>(alloc: Global, line: &'a [u8]) -> Result<Scanned<'a>, NoMemory>
     requires { length line.now ≤ 65536 }
-    ensures { IfOk result (IsScan line.now) }
+    ensures reads { IfOk result (IsScan line.now) }
+
+    // Names are identifiers, and numbers are within the bound of literals.
+    ensures fit { IfOk result HasFitTokens }
 {
     let mut tokens = Vec::new(alloc);
     let mut columns = Vec::new(alloc);

@@ -1,5 +1,5 @@
 use Rattle.std.proofs.Common.{◌≡◌, length, reverse}
-use Rattle.theory_grammar.proofs.Machine.{implied}
+use Rattle.theory_grammar.specs.Machine.{implied}
 use Rattle.theory_syntax.specs.Plain.{claim_of, claims_of}
 use Rattle.theory_line.proofs.claim_nodes.implied.Given as goal
 

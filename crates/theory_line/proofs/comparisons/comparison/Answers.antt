@@ -1,7 +1,7 @@
 use Rattle.std.proofs.Common.{sym, ap, ◌∙◌, [], arith}
 use Rattle.theory_meaning.specs.Tree.{Claim}
 use Rattle.theory_grammar.specs.Token.{relation}
-use Rattle.theory_grammar.proofs.Machine.{want_claim, have_claim, operand, fresh, left_of_atom, right_of_atom}
+use Rattle.theory_grammar.specs.Machine.{want_claim, have_claim, operand, fresh, left_of_atom, right_of_atom}
 use Rattle.theory_grammar.specs.declared.words.LineFaultKind.TheVariants.{Unexpected}
 use Rattle.theory_line.specs.Reading.{reading, stopped}
 use Rattle.theory_line.specs.Behind.{behind_expr}

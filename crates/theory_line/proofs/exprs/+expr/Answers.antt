@@ -1,7 +1,7 @@
 use Rattle.std.proofs.Common.{◌≡◌, ℕ, suc, ◌+◌, [], ◌∷◌, length, refl, sym, ap, ◌∙◌, arith}
 use Rattle.theory_grammar.specs.Token as plain
 use Rattle.theory_grammar.specs.declared.words.Mark.TheVariants as sign
-use Rattle.theory_grammar.proofs.Machine.{alone, joined, fresh, opposed, times, left_of_equation, Context, operand, closed, term, factored}
+use Rattle.theory_grammar.specs.Machine.{alone, joined, fresh, opposed, times, left_of_equation, Context, operand, closed, term, factored}
 use Rattle.theory_line.specs.Reading.{reading}
 use Rattle.theory_line.specs.Behind.{in_sum, behind_term, behind_expr}
 use Rattle.theory_line.specs.Exprs.{over_mark}

@@ -2,7 +2,7 @@ use Rattle.std.proofs.Common.{◌≡◌, None, Some, refl, ap, ◌∙◌}
 use Rattle.theory_meaning.specs.Tree as plain
 use Rattle.theory_grammar.specs.declared.words.Keyword.TheVariants as word
 use Rattle.theory_grammar.specs.Token.{keyword}
-use Rattle.theory_grammar.proofs.Machine.{label_of_claim, by_or_colon, name_of_shift, colon, assertion, claim_of_line, line_with}
+use Rattle.theory_grammar.specs.Machine.{label_of_claim, by_or_colon, name_of_shift, colon, assertion, claim_of_line, line_with}
 use Rattle.theory_line.specs.Reading.{reading, whole}
 use Rattle.theory_line.proofs.LineReading.{wants_name, wants_colon, no_by, passed_by_part, passed_by_line, assertion_named}
 use Rattle.theory_line.proofs.ParsesLaws.{fit_behind}

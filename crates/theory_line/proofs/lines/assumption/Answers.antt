@@ -1,5 +1,5 @@
 use Rattle.std.proofs.Common.{refl, ◌∙◌}
-use Rattle.theory_grammar.proofs.Machine.{label_of_assumption, colon, assumption, claim_of_line, line_with}
+use Rattle.theory_grammar.specs.Machine.{label_of_assumption, colon, assumption, claim_of_line, line_with}
 use Rattle.theory_line.specs.Reading.{reading}
 use Rattle.theory_line.proofs.LineReading.{wants_name, wants_colon, passed_by_part, passed_by_line}
 use Rattle.theory_syntax.specs.Plain.{claim_of, line_of}

@@ -3,7 +3,7 @@ use Rattle.theory_meaning.specs.Tree as plain
 use Rattle.theory_meaning.specs.declared.words.Rel.TheVariants as rel
 use Rattle.theory_grammar.specs.declared.words.Mark.TheVariants as sign
 use Rattle.theory_grammar.specs.Token.{mark, relation}
-use Rattle.theory_grammar.proofs.Machine.{label_of_equation, colon_of_equation, operand, fresh, left_of_equation, right_of_equation}
+use Rattle.theory_grammar.specs.Machine.{label_of_equation, colon_of_equation, operand, fresh, left_of_equation, right_of_equation}
 use Rattle.theory_line.specs.Reading.{reading}
 use Rattle.theory_line.specs.Behind.{behind_expr}
 use Rattle.theory_line.proofs.LineReading.{wants_colon, equation_named, passed_by_part, passed_by_colon, passed_by_end, ends_equation, no_equals, nothing_left, stops_here, equation_stops}

@@ -2,7 +2,7 @@ use Rattle.std.proofs.Common.{◌≡◌, refl, ap, ◌∙◌}
 use Rattle.theory_meaning.specs.Tree as plain
 use Rattle.theory_grammar.specs.declared.words.Keyword.TheVariants as word
 use Rattle.theory_grammar.specs.Token.{keyword}
-use Rattle.theory_grammar.proofs.Machine.{name_of_function, word_of, first_argument}
+use Rattle.theory_grammar.specs.Machine.{name_of_function, word_of, first_argument}
 use Rattle.theory_line.specs.Reading.{reading, whole}
 use Rattle.theory_line.proofs.LineReading.{wants_name, passed_by_part, passed_by_line, no_of, stops_here}
 use Rattle.theory_line.proofs.ParsesLaws.{fit_behind}

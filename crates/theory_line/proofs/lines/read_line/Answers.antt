@@ -2,7 +2,7 @@ use Rattle.std.proofs.Common.{◌∷◌, refl, ap, ◌∙◌}
 use Rattle.theory_meaning.specs.Tree as plain
 use Rattle.theory_grammar.specs.declared.words.Keyword.TheVariants as word
 use Rattle.theory_grammar.specs.Token.{keyword}
-use Rattle.theory_grammar.proofs.Machine.{start, finished, name_of_model, name_of_var, name_of_param}
+use Rattle.theory_grammar.specs.Machine.{start, finished, name_of_model, name_of_var, name_of_param}
 use Rattle.theory_line.specs.Reading.{reading}
 use Rattle.theory_line.proofs.LineReading.{wants_name, passed_by_line}
 use Rattle.theory_line.proofs.ParsesLaws.{fit_behind}

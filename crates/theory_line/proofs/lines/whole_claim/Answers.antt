@@ -1,7 +1,7 @@
 use Rattle.std.proofs.Common.{[], refl, ◌∙◌}
 use Rattle.theory_grammar.specs.declared.words.Mark.TheVariants as sign
 use Rattle.theory_grammar.specs.Token.{mark}
-use Rattle.theory_grammar.proofs.Machine.{at_colon, claim_of_line, line_with}
+use Rattle.theory_grammar.specs.Machine.{at_colon, claim_of_line, line_with}
 use Rattle.theory_line.specs.Reading.{reading}
 use Rattle.theory_line.specs.Behind.{behind_claim}
 use Rattle.theory_line.proofs.LineReading.{moved, passed_by_part, passed_by_colon, passed_by_end, ends_claim_line, nothing_left}

@@ -1,6 +1,6 @@
 use Rattle.std.proofs.Common.{drop}
 use Rattle.theory_syntax.specs.Plain.{ops_of}
-use Rattle.theory_model.specs.Changed.{PutsIdentifiers}
+use Rattle.theory_meaning.specs.Edit.{PutsIdentifiers}
 use Rattle.theory_model.proofs.identifiers.put_identifiers.Given as goal
 
 abbrev pub invariant-loop-op : goal.invariant-loop-op

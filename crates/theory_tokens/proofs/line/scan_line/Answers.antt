@@ -1,6 +1,6 @@
 use Rattle.std.proofs.Common.{◌+◌, ◌-◌, length}
 use Rattle.theory_grammar.specs.Scan.{complete, broken}
-use Rattle.theory_tokens.proofs.LineLemmas.{one_more_token, all_led}
+use Rattle.theory_tokens.proofs.LineLemmas.{one_more_token, all_led, read_fit}
 use Rattle.theory_tokens.proofs.line.scan_line.Goals as goal
 
 pub loop-token-preserved : goal.loop-token-preserved
@@ -11,15 +11,17 @@ loop-token-preserved c =
 pub returns-in-Over : goal.returns-in-Over
 returns-in-Over c =
     let column = length c.args.line.now - length c.loop-token.rest.now + 1 in
+    let reads = all_led _ (complete column) _ _ c.loop-token.invariant.leads (c.in-Over.ensures column) in
     record {
-      even = c.loop-token.invariant.even;
-      reads = all_led _ (complete column) _ _ c.loop-token.invariant.leads (c.in-Over.ensures column);
+      reads = record { even = c.loop-token.invariant.even; reads = reads };
+      fit = read_fit _ _ _ (complete column) c.loop-token.invariant.even reads;
     }
 
 pub returns-in-Bad : goal.returns-in-Bad
 returns-in-Bad c =
     let column = length c.args.line.now - length c.loop-token.rest.now + 1 in
+    let reads = all_led _ (broken c.in-Bad.why column) _ _ c.loop-token.invariant.leads (c.in-Bad.ensures column) in
     record {
-      even = c.loop-token.invariant.even;
-      reads = all_led _ (broken c.in-Bad.why column) _ _ c.loop-token.invariant.leads (c.in-Bad.ensures column);
+      reads = record { even = c.loop-token.invariant.even; reads = reads };
+      fit = read_fit _ _ _ (broken c.in-Bad.why column) c.loop-token.invariant.even reads;
     }

@@ -18,8 +18,8 @@ printed_kind kind.TooManyLines = codes "TooManyLines"
 printed_kind kind.Memory = codes "Memory"
 
 -- what a refused edit tells
-abbrev pub told_by : EditFault → List ℕ
-told_by (UnknownKey n) = codes "no line has the key to drop"
-told_by (ModelLine n) = codes "a model line is put"
-told_by (After f) = codes "the changed lines are no model"
-told_by Memory = codes "no memory"
+abbrev pub message_of : EditFault → List ℕ
+message_of (UnknownKey n) = codes "no line has the key to drop"
+message_of (ModelLine n) = codes "a model line is put"
+message_of (After f) = codes "the changed lines are no model"
+message_of Memory = codes "no memory"

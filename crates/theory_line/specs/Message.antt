@@ -6,13 +6,13 @@ use Rattle.theory_line.specs.declared.fault.ParseFault.{ParseFault}
 use Rattle.theory_line.specs.declared.fault.ParseFault.TheVariants.{At, Memory}
 
 -- what is told of each kind of fault
-abbrev pub told_of_kind : LineFaultKind → List ℕ
-told_of_kind Unexpected = codes "a token at which no line goes on"
-told_of_kind ZeroBelow = codes "a fraction over 0"
-told_of_kind Exponent = codes "an exponent that isn't from 1 to 8"
-told_of_kind Deep = codes "more than 32 open signs"
+abbrev pub kind_message : LineFaultKind → List ℕ
+kind_message Unexpected = codes "a token at which no line goes on"
+kind_message ZeroBelow = codes "a fraction over 0"
+kind_message Exponent = codes "an exponent that isn't from 1 to 8"
+kind_message Deep = codes "more than 32 open signs"
 
 -- what is told by each fault of a line
-abbrev pub told_by : ParseFault → List ℕ
-told_by (At kind left) = told_of_kind kind
-told_by Memory = codes "no memory"
+abbrev pub message_of : ParseFault → List ℕ
+message_of (At kind left) = kind_message kind
+message_of Memory = codes "no memory"
