@@ -4,19 +4,18 @@
 use std::io::ErrorKind;
 use std::process::ExitCode;
 use std::{env, io};
-use theory_cli::{report_no_command, report_no_memory, theory};
+use theory_cli::{NoWords, program};
 use theory_edge::{RealFiles, RealSink};
 
 fn main(rt: HostRuntime) -> ExitCode {
     let mut files = RealFiles::new(&rt);
     let mut out = RealSink::output(rt.stdout());
     let mut err = RealSink::errors(rt.stderr());
-    let status = match words(&rt) {
-        Ok(words) => theory(rt.alloc(), &words, &mut files, &mut out, &mut err).status,
-        Err(e) if e.kind() == ErrorKind::OutOfMemory => report_no_memory(&mut err),
-        Err(_) => report_no_command(&mut err),
+    let words = match words(&rt) {
+        Err(e) if e.kind() == ErrorKind::OutOfMemory => Err(NoWords::NoMemory),
+        words => words.map_err(|_| NoWords::NotText),
     };
-    ExitCode::from(status as u8)
+    ExitCode::from(program(rt.alloc(), words, &mut files, &mut out, &mut err))
 }
 
 // The words behind the program's name.

@@ -1,5 +1,8 @@
 pub mod SessionLemmas
+pub mod AnswerLemmas
 pub mod RunLemmas
 pub mod RefusalLemmas
-pub mod CompleteLemmas
+pub mod ExclusionLemmas
+pub mod CheckLemmas
+pub mod ProgramLemmas
 pub mod LineCounts

@@ -1,5 +1,5 @@
 -- Refusals of bytes, from what was found of their text, their model and its form.
-use Rattle.std.proofs.Common.{◌≡◌, ◌⊎◌, ⊎_elim, ℕ, ◌-◌, List, Some, subst}
+use Rattle.std.proofs.Common.{◌≡◌, ◌⊎◌, ⊎_elim, ℕ, List, Some, subst}
 use Rattle.theory_meaning.specs.declared.words.ModelKind.TheVariants as model_kind
 use Rattle.theory_meaning.specs.Edit.{IsModel}
 use Rattle.theory_meaning.specs.ModelFault as meaning

@@ -1,131 +1,147 @@
--- A whole run, from how the check of the file stopped and what was reported.
-use Rattle.std.proofs.Common.{◌≡◌, ℕ, List, [], ◌∷◌, Option, Some, Err, inl, inr, ⊎_elim, refl, sym, ap, ◌∙◌, subst, arith, length, get_or, map}
-use Rattle.std.proofs.lemmas.List.{append-nil}
-use Rattle.theory_meaning.specs.Faults.{Took, TookPart}
-use Rattle.theory_edge.specs.Files.{Texts}
+-- A whole run, from what was given to it, the end that it reached and what was told on err.
+use Rattle.std.proofs.Common.{◌≡◌, ◌⊎◌, ℕ, ◌+◌, ◌-◌, ◌^◌, ◌≤◌, min, List, [], ◌∷◌, inl, inr, ⊎_elim, refl, sym, ◌∙◌, subst, arith}
+use Rattle.theory_meaning.specs.Faults.{Rose}
+use Rattle.theory_edge.specs.Sinks.{SinkTold}
 use Rattle.theory_cli.specs.declared.reply.Reply.{Reply}
 use Rattle.theory_cli.specs.declared.status.Status.{Status}
-use Rattle.theory_cli.specs.declared.status.Status.TheVariants as status
-use Rattle.theory_cli.specs.declared.running.Stop.{Stop}
-use Rattle.theory_cli.specs.declared.running.Stop.TheVariants.{Refused, Unread, Unwritten, NoMemory}
-use Rattle.theory_cli.specs.Session.{replies_text}
-use Rattle.theory_cli.specs.Ending.{FileCounts, SinkCounts, IsCommand, IsCheck, IsOutput, IsCause, IsErrLine, IsErrors}
-use Rattle.theory_cli.specs.Running.{refusal_text, IsStop, meant_by, stop_line, no_memory_line, IsWritten, Reports, IsRun}
+use Rattle.theory_cli.specs.declared.status.Status.TheVariants.{Finished, NoCommand, Refused, Unread, Unwritten, NoMemory}
+use Rattle.theory_cli.specs.Command.{IsCommand, Given, no_command, not_asked, no_bytes, gave, AreWords, IsGiven, IsAsked}
+use Rattle.theory_cli.specs.Taking.{TookReplies, CutInLast}
+use Rattle.theory_cli.specs.Ending.{IsCause, IsWritten, IsReported, no_command_line}
+use Rattle.theory_cli.specs.Run.{Ends, AreMade, IsOutput, IsDecided, NoneFailed, IsComplete, IsRun}
+use Rattle.theory_cli.proofs.ExclusionLemmas.{never_both}
 
--- a sink that was left alone took nothing
-pub took_nothing : (held : Option (List ℕ)) → Took held held []
-took_nothing held bytes is = is ∙ ap Some (sym (append-nil bytes))
+-- a count of faults doesn't fall where prints are taken
+took_later : (rs : List Reply) (before now : SinkTold) → TookReplies rs before now → before.faults ≤ now.faults
+took_later [] before now same = subst (λ (s : SinkTold). before.faults ≤ s.faults) (sym same) (omega arith)
+took_later (r ∷ rs) before now told = told.later
 
--- what was taken whole was taken in part
-took_part : (h i : Option (List ℕ)) (text : List ℕ) → Took h i text → TookPart h i text
-took_part h i text took bytes is = (text, ([], append-nil text), took bytes is)
+-- and rose where the last one was cut off
+cut_rose : (replies : List Reply) (before now : SinkTold) → CutInLast replies before now → Rose before.faults now.faults
+cut_rose replies before now c =
+    let m = took_later c.whole before c.between c.taken in
+    let n : min (c.between.faults + 1) (2 ^ 64 - 1) ≤ now.faults = c.cut.rose in
+    omega arith
 
-module _ (words : List (List ℕ)) (texts : Texts) (files : FileCounts) (sinks : SinkCounts) where
-  -- the line that was meant, written whole
-  errors_as_meant : (meant : Status) (line : List ℕ) (err err' : Option (List ℕ)) → IsCause words texts files sinks meant →
-      IsErrLine words texts meant line → Took err err' line →
-      IsErrors words texts files sinks meant err err'
-  errors_as_meant status.Finished line err err' cause is took = (line, is, took)
-  errors_as_meant status.NoCommand line err err' cause is took = (line, is, took)
-  errors_as_meant status.Refused line err err' cause is took = (line, is, took)
-  errors_as_meant status.Unread line err err' cause is took = (line, is, took)
-  errors_as_meant status.Unwritten line err err' cause is took = (status.Unwritten, line, cause, is, took_part err err' line took)
-  errors_as_meant status.NoMemory line err err' cause is took = (line, is, took)
+-- the end is as it was meant, or err failed
+abbrev EndsAs : Status → SinkTold → SinkTold → Status → Type 0
+EndsAs reached before now status = (status ≡ reached) ⊎ ((status ≡ Unwritten) × Rose before.faults now.faults)
 
-  -- the line of a stop is that of the status that it means
-  line_of_stop : (file : List ℕ) (stop : Stop) (replies : List Reply) (out out' : Option (List ℕ)) → IsCommand words file →
-      IsStop texts file files replies out out' sinks.out_before sinks.out_now (Err stop) →
-      IsErrLine words texts (meant_by stop) (stop_line file stop)
-  line_of_stop file (Refused r) replies out out' command s = (file, refusal_text r, command, s.0, refl)
-  line_of_stop file Unread replies out out' command s = (file, command, refl)
-  line_of_stop file Unwritten replies out out' command s = refl
-  line_of_stop file NoMemory replies out out' command s = refl
+written_as : (meant : Status) (line : List ℕ) (before now : SinkTold) (status : Status) → IsWritten meant line before now status →
+    EndsAs meant before now status
+written_as meant line before now status written = ⊎_elim (λ w. inl w.0) (λ c. inr (c.0, c.1.rose)) written
 
-  -- what holds at the status that is meant, and what is left of it where the line can't be written
-  record Meant (replies : List Reply) (out out' : Option (List ℕ)) (meant : Status) : Type 0 where
-    check : IsCheck words texts meant replies
-    check_cut : IsCheck words texts status.Unwritten replies
-    output : IsOutput meant out out' (replies_text replies)
-    output_cut : IsOutput status.Unwritten out out' (replies_text replies)
-    cause : IsCause words texts files sinks meant
+ends_as : (given : Given) (reached : Status) (before now : SinkTold) (status : Status) → IsReported given reached before now status →
+    EndsAs reached before now status
+ends_as given Finished before now status r = inl r.0
+ends_as given NoCommand before now status r = written_as NoCommand r.0 before now status r.2
+ends_as given Refused before now status r = written_as Refused r.0 before now status r.2
+ends_as given Unread before now status r = written_as Unread r.0 before now status r.2
+ends_as given Unwritten before now status r = inl r.0
+ends_as given NoMemory before now status r = written_as NoMemory r.0 before now status r.2
 
-  -- want of memory may come in place of each
-  wanting : (file : List ℕ) (stop : Stop) (replies : List Reply) (out out' : Option (List ℕ)) → IsCommand words file →
-      IsStop texts file files replies out out' sinks.out_before sinks.out_now (Err stop) →
-      (stop ≡ Unwritten → ⊥) → Meant replies out out' status.NoMemory
-  wanting file (Refused r) replies out out' command (refused, empty, told) written =
-      let took : Took out out' (replies_text replies) = subst (λ (rs : List Reply). Took out out' (replies_text rs)) (sym empty) told.took in
-      record { check = inl empty; check_cut = inl empty; output = took; output_cut = took_part out out' (replies_text replies) took; cause = (file, command) }
-  wanting file Unread replies out out' command (failed, empty, told) written =
-      let took : Took out out' (replies_text replies) = subst (λ (rs : List Reply). Took out out' (replies_text rs)) (sym empty) told.took in
-      record { check = inl empty; check_cut = inl empty; output = took; output_cut = took_part out out' (replies_text replies) took; cause = (file, command) }
-  wanting file Unwritten replies out out' command s written = absurd (written refl)
-  wanting file NoMemory replies out out' command (made, told) written =
-      let of = ⊎_elim {C = IsCheck words texts status.NoMemory replies} (λ e. inl e) (λ o. inr (file, command, o)) made in
-      record { check = of; check_cut = of; output = told.took; output_cut = took_part out out' (replies_text replies) told.took; cause = (file, command) }
-
-  -- each stop means its status
-  meant_of : (file : List ℕ) (stop : Stop) (replies : List Reply) (out out' : Option (List ℕ)) → IsCommand words file →
-      IsStop texts file files replies out out' sinks.out_before sinks.out_now (Err stop) →
-      Meant replies out out' (meant_by stop)
-  meant_of file (Refused r) replies out out' command (refused, empty, told) =
-      let took : Took out out' (replies_text replies) = subst (λ (rs : List Reply). Took out out' (replies_text rs)) (sym empty) told.took in
-      record {
-        check = empty;
-        check_cut = inl empty;
-        output = took;
-        output_cut = took_part out out' (replies_text replies) took;
-        cause = (file, refusal_text r, command, refused);
-      }
-  meant_of file Unread replies out out' command (failed, empty, told) =
-      let took : Took out out' (replies_text replies) = subst (λ (rs : List Reply). Took out out' (replies_text rs)) (sym empty) told.took in
-      record {
-        check = empty;
-        check_cut = inl empty;
-        output = took;
-        output_cut = took_part out out' (replies_text replies) took;
-        cause = (file, command, failed);
-      }
-  meant_of file Unwritten replies out out' command (made, cut) =
-      record { check = inr (file, command, made); check_cut = inr (file, command, made); output = cut.part; output_cut = cut.part; cause = inl cut.rose }
-  meant_of file NoMemory replies out out' command s = wanting file NoMemory replies out out' command s (λ e. absurd (cc))
-
-  -- the line is written, or a beginning of it
-  written_run : (file : List ℕ) (meant : Status) (line : List ℕ) (replies : List Reply) (out out' err err' : Option (List ℕ)) (ended : Status) →
-      IsErrLine words texts meant line → Meant replies out out' meant →
-      IsWritten meant line err err' sinks.err_before sinks.err_now ended → IsRun words texts files sinks replies out out' err err' ended
-  written_run file meant line replies out out' err err' ended is m written =
+module _ (words : List (List ℕ)) (before now : Ends) (replies : List Reply) where
+  failed : (reached status : Status) → IsOutput reached replies before.out now.out → EndsAs reached before.err now.err status → status ≡ Unwritten →
+      Rose before.out.faults now.out.faults ⊎ Rose before.err.faults now.err.faults
+  failed reached status output ends is =
       ⊎_elim
-      (λ whole. subst (λ (s : Status). IsRun words texts files sinks replies out out' err err' s) (sym whole.0)
-      (record { check = m.check; output = m.output; cause = m.cause; errors = errors_as_meant meant line err err' m.cause is whole.1 }))
-      (λ cut. subst (λ (s : Status). IsRun words texts files sinks replies out out' err err' s) (sym cut.0)
-      (record { check = m.check_cut; output = m.output_cut; cause = inr cut.2; errors = (meant, line, m.cause, is, cut.1) })) written
+      (λ e. inl (cut_rose replies before.out now.out (subst (λ (s : Status). IsOutput s replies before.out now.out) (sym e ∙ is) output)))
+      (λ c. inr c.1) ends
 
-  -- a run whose check stopped
-  pub reported_run : (file : List ℕ) (stop : Stop) (replies : List Reply) (out out' err err' : Option (List ℕ)) (ended : Status) →
-      IsStop texts file files replies out out' sinks.out_before sinks.out_now (Err stop) → Reports file stop err err' sinks.err_before sinks.err_now ended →
-      IsCommand words file → IsRun words texts files sinks replies out out' err err' ended
-  reported_run file stop replies out out' err err' ended s r command =
-      let line = line_of_stop file stop replies out out' command s in
-      let meant = meant_of file stop replies out out' command s in
-      ⊎_elim
-      (λ written. written_run file (meant_by stop) (stop_line file stop) replies out out' err err' ended line meant written)
-      (λ lacking. written_run file status.NoMemory no_memory_line replies out out' err err' ended refl
-      (wanting file stop replies out out' command s lacking.0) lacking.1) r
+  decided : (given : Given) (reached status : Status) → IsCause given before.files now.files reached → AreMade given reached replies →
+      EndsAs reached before.err now.err status → IsDecided given status
+  decided no_command reached status cause made ends = tt
+  decided (not_asked file) reached status cause made ends = tt
+  decided (no_bytes file) reached status cause made ends = tt
+  decided (gave file bytes) reached status cause made ends = (
+    λ spells is. ⊎_elim {C = ⊥}
+        (λ e. let r = subst (IsCause (gave file bytes) before.files now.files) (sym e ∙ is) cause in
+        never_both bytes spells.0 spells.1 spells.2 r.0 spells.3 r.1)
+        (λ c. let bad : ◌≡◌ {A = Status} Refused Unwritten = sym is ∙ c.0 in absurd (cc)) ends,
+    λ told refusal is. ⊎_elim {C = ⊥}
+        (λ e. let m = subst (λ (s : Status). AreMade (gave file bytes) s replies) (sym e ∙ is) made in
+        never_both bytes m.0 m.1 m.2 told m.3 refusal)
+        (λ c. let bad : ◌≡◌ {A = Status} Finished Unwritten = sym is ∙ c.0 in absurd (cc)) ends,
+  )
+
+  -- the ends that a command may reach where no count rose
+  reaches : (given : Given) (reached : Status) (file : List ℕ) → AreWords words given → IsCommand words file → NoneFailed before now →
+      IsCause given before.files now.files reached → IsOutput reached replies before.out now.out →
+      (reached ≡ Finished) ⊎ (reached ≡ Refused) ⊎ (reached ≡ NoMemory)
+  reaches no_command reached file are command none cause output = absurd (are file command)
+  reaches (not_asked f) NoMemory file are command none cause output = inr (inr refl)
+  reaches (not_asked f) Finished file are command none cause output = absurd cause
+  reaches (not_asked f) NoCommand file are command none cause output = absurd cause
+  reaches (not_asked f) Refused file are command none cause output = absurd cause
+  reaches (not_asked f) Unread file are command none cause output = absurd cause
+  reaches (not_asked f) Unwritten file are command none cause output = absurd cause
+  reaches (no_bytes f) NoMemory file are command none cause output = inr (inr refl)
+  reaches (no_bytes f) Finished file are command none cause output = absurd cause
+  reaches (no_bytes f) NoCommand file are command none cause output = absurd cause
+  reaches (no_bytes f) Refused file are command none cause output = absurd cause
+  reaches (no_bytes f) Unread file are command none cause output = absurd (none.files cause)
+  reaches (no_bytes f) Unwritten file are command none cause output = absurd cause
+  reaches (gave f bytes) Finished file are command none cause output = inl refl
+  reaches (gave f bytes) Refused file are command none cause output = inr (inl refl)
+  reaches (gave f bytes) NoMemory file are command none cause output = inr (inr refl)
+  reaches (gave f bytes) NoCommand file are command none cause output = absurd cause
+  reaches (gave f bytes) Unread file are command none cause output = absurd cause
+  reaches (gave f bytes) Unwritten file are command none cause output = absurd (none.out (cut_rose replies before.out now.out output))
+
+  -- words that are no command reach one end
+  reaches_one : (given : Given) (reached : Status) → AreWords words given → ((file : List ℕ) → ¬ IsCommand words file) →
+      IsCause given before.files now.files reached → reached ≡ NoCommand
+  reaches_one no_command NoCommand are other cause = refl
+  reaches_one no_command Finished are other cause = absurd cause
+  reaches_one no_command Refused are other cause = absurd cause
+  reaches_one no_command Unread are other cause = absurd cause
+  reaches_one no_command Unwritten are other cause = absurd cause
+  reaches_one no_command NoMemory are other cause = absurd cause
+  reaches_one (not_asked f) reached are other cause = absurd (other f are)
+  reaches_one (no_bytes f) reached are other cause = absurd (other f are)
+  reaches_one (gave f bytes) reached are other cause = absurd (other f are)
+
+  complete : (given : Given) (reached status : Status) → AreWords words given → IsCause given before.files now.files reached →
+      IsOutput reached replies before.out now.out → EndsAs reached before.err now.err status → IsComplete words before now status
+  complete given reached status are cause output ends = record {
+    command = λ file command none.
+        ⊎_elim
+        (λ e. subst (λ (s : Status). (s ≡ Finished) ⊎ (s ≡ Refused) ⊎ (s ≡ NoMemory)) (sym e)
+        (reaches given reached file are command none cause output))
+        (λ c. absurd (none.err c.1)) ends;
+    no_command = λ other stands. ⊎_elim (λ e. e ∙ reaches_one given reached are other cause) (λ c. absurd (stands c.1)) ends;
+  }
+
+  -- a run, from what is known of its parts
+  pub runs : (given : Given) (reached status : Status) → AreWords words given → IsGiven before.files.texts given →
+      IsAsked given before.files now.files → IsCause given before.files now.files reached → AreMade given reached replies →
+      IsOutput reached replies before.out now.out → IsReported given reached before.err now.err status → IsRun words before now status replies
+  runs given reached status are read asked cause made output reported =
+      let ends = ends_as given reached before.err now.err status reported in (
+        given,
+        reached,
+        record {
+          command = are;
+          read = read;
+          asked = asked;
+          cause = cause;
+          made = made;
+          output = output;
+          reported = reported;
+          failed = failed reached status output ends;
+          decided = decided given reached status cause made ends;
+          complete = complete given reached status are cause output ends;
+        },
+      )
 
   -- a run whose words are no command
-  pub no_command_run : (line : List ℕ) (replies : List Reply) (out err err' : Option (List ℕ)) (ended : Status) →
-      ((file : List ℕ) → ¬ IsCommand words file) → replies ≡ [] → IsErrLine words texts status.NoCommand line →
-      IsWritten status.NoCommand line err err' sinks.err_before sinks.err_now ended → IsRun words texts files sinks replies out out err err' ended
-  no_command_run line replies out err err' ended none empty is written =
-      let took : Took out out (replies_text replies) = subst (λ (rs : List Reply). Took out out (replies_text rs)) (sym empty) (took_nothing out) in
-      written_run [] status.NoCommand line replies out out err err' ended is
-      (record { check = empty; check_cut = inl empty; output = took; output_cut = took_part out out (replies_text replies) took; cause = none }) written
+  pub no_command_run : (status : Status) → ((file : List ℕ) → ¬ IsCommand words file) → replies ≡ [] → now.files ≡ before.files → now.out ≡ before.out →
+      IsWritten NoCommand no_command_line before.err now.err status → IsRun words before now status replies
+  no_command_run status other empty files out written =
+      runs no_command NoCommand status other tt files tt empty (subst (λ (rs : List Reply). TookReplies rs before.out now.out) (sym empty) out)
+      (no_command_line, refl, written)
 
--- two words
-pub two_words : {X : Type 0} (bytes : X → List ℕ) (words : List X) (a b : X) → length words ≡ 2 →
-    a ≡ get_or words 0 a → b ≡ get_or words 1 b → map bytes words ≡ bytes a ∷ bytes b ∷ []
-two_words bytes [] a b two first second = absurd (omega arith)
-two_words bytes (x ∷ []) a b two first second = absurd (omega arith)
-two_words bytes (x ∷ y ∷ []) a b two first second = ap (λ z. bytes z ∷ bytes y ∷ []) (sym first) ∙ ap (λ z. bytes a ∷ bytes z ∷ []) (sym second)
-two_words bytes (x ∷ y ∷ z ∷ words) a b two first second = absurd (omega arith)
+-- a run of the same words
+pub run_of : (words named : List (List ℕ)) (before now : Ends) (status : Status) (replies : List Reply) → words ≡ named →
+    IsRun named before now status replies → IsRun words before now status replies
+run_of words named before now status replies same run = subst (λ (w : List (List ℕ)). IsRun w before now status replies) (sym same) run

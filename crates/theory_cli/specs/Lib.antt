@@ -3,11 +3,16 @@ pub use Rattle.theory_meaning.specs.Faults
 pub use Rattle.theory_meaning.specs.ModelFault
 pub use Rattle.theory_grammar.specs.Texts
 pub use Rattle.theory_edge.specs.Files
+pub use Rattle.theory_edge.specs.Sinks
 pub use Rattle.theory_one_variable.specs.OneVariable
 pub use Rattle.theory_one_variable.specs.ReadLines
 pub mod Printed
 pub mod Refusal
 pub mod Session
+pub mod Taking
+pub mod Command
 pub mod Ending
+pub mod Run
 pub mod Telling
 pub mod Running
+pub mod Program

@@ -1,20 +1,15 @@
 -- The printed form of replies. docs/PROTOCOL.md has it in words.
-use Rattle.std.specs.Prelude.{ℕ, zero, suc, ◌+◌, List, [], ◌∷◌, ◌++◌, codes, decimal}
-use Rattle.std.specs.Fmt.{signed_decimal}
+use Rattle.std.specs.Prelude.{ℕ, List, [], ◌∷◌, ◌++◌, Option, Some, None, codes, decimal}
 use Rattle.theory_meaning.specs.declared.words.Verdict.{Verdict}
-use Rattle.theory_meaning.specs.declared.words.Verdict.TheVariants.{Holds, Fails, Contradictory, Mixed, Undecided}
-use Rattle.theory_meaning.specs.Fraction.{Fraction}
 use Rattle.theory_meaning.specs.Point.{Name, Point, value_at}
-use Rattle.theory_meaning.specs.Half.{Half, found, found_wide, absent, left}
-
--- the denominator behind a slash, or nothing for a whole number
-abbrev pub below_text : ℕ → List ℕ
-below_text zero = []
-below_text (suc less) = codes "/" ++ decimal (suc less + 1)
-
--- a fraction: the numerator, and the denominator where it isn't 1
-abbrev pub fraction_text : Fraction → List ℕ
-fraction_text q = signed_decimal q.num ++ below_text q.less
+use Rattle.theory_meaning.specs.Printed.{fraction_text, verdict_text}
+use Rattle.theory_meaning.specs.Half.{Cause, stuck, wide, large, budget, many_leaves, Half, found, found_wide, absent, left}
+use Rattle.theory_meaning.specs.Tree.{Claim}
+use Rattle.theory_grammar.specs.Printed.{claim_text}
+use Rattle.theory_syntax.specs.Plain.{claim_of}
+use Rattle.theory_verdict.specs.Plain.{cause_of}
+use Rattle.theory_verdict.specs.declared.answer.Region.{Region}
+use Rattle.theory_verdict.specs.declared.answer.Region.TheVariants.{Known, Unknown}
 
 -- a name with its value
 abbrev pub entry_text : Point → Name → List ℕ
@@ -30,20 +25,34 @@ abbrev pub point_text : Point → List Name → List ℕ
 point_text p [] = codes "any point"
 point_text p (name ∷ names) = entry_text p name ++ further_text p names
 
--- a half; one that is left open has no printed form in this program yet
+-- a symbol with the claim in which it is stuck
+abbrev pub stuck_text : Name × Claim → List ℕ
+stuck_text on = on.0 ++ codes " in " ++ claim_text on.1
+
+-- the further ones, each behind a comma
+abbrev pub further_stuck : List (Name × Claim) → List ℕ
+further_stuck [] = []
+further_stuck (on ∷ ons) = codes ", " ++ stuck_text on ++ further_stuck ons
+
+-- all of them, behind a space
+abbrev pub stuck_texts : List (Name × Claim) → List ℕ
+stuck_texts [] = []
+stuck_texts (on ∷ ons) = codes " " ++ stuck_text on ++ further_stuck ons
+
+-- why a half or a condition is left open
+abbrev pub cause_text : Cause → List ℕ
+cause_text (stuck ons) = codes "stuck on" ++ stuck_texts ons
+cause_text wide = codes "a polynomial passes the limit"
+cause_text large = codes "a formula passes the limit"
+cause_text budget = codes "the search passes the limit"
+cause_text many_leaves = codes "the condition passes the limit"
+
+-- a half
 abbrev pub half_text : List Name → Half → List ℕ
 half_text names (found p) = point_text p names
 half_text names found_wide = codes "some point, not printable"
 half_text names absent = codes "none"
-half_text names (left cause) = []
-
--- the printed word of a verdict
-abbrev pub verdict_text : Verdict → List ℕ
-verdict_text Holds = codes "true"
-verdict_text Fails = codes "false"
-verdict_text Contradictory = codes "contradictory"
-verdict_text Mixed = codes "mixed"
-verdict_text Undecided = codes "undecided"
+half_text names (left cause) = codes "undecided, " ++ cause_text cause
 
 -- the end of a line
 abbrev pub line_end : List ℕ
@@ -64,6 +73,16 @@ half_line word names half = word ++ half_text names half ++ line_end
 -- the two lines of the halves
 abbrev pub halves_text : List Name → Half → Half → List ℕ
 halves_text names example counter = half_line (codes "  example: ") names example ++ half_line (codes "  counterexample: ") names counter
+
+-- the condition under which a claim holds, or why it isn't known
+abbrev pub region_text : Region → List ℕ
+region_text (Known condition) = claim_text (claim_of condition)
+region_text (Unknown cause) = codes "unknown, " ++ cause_text (cause_of cause)
+
+-- its line, where there is one
+abbrev pub region_line : Option Region → List ℕ
+region_line None = []
+region_line (Some region) = codes "  holds where: " ++ region_text region ++ line_end
 
 -- the line of a created model
 abbrev pub created_text : Name → ℕ → List ℕ

@@ -1,6 +1,6 @@
 -- Why the bytes of a file aren't answered, and what is told of it behind the file's name. docs/PROTOCOL.md has it in words.
 use Rattle.std.specs.Prelude.{◌≡◌, ℕ, max, List, ◌++◌, Some, length, codes, decimal}
-use Rattle.theory_meaning.specs.Edit.{IsModel}
+use Rattle.theory_meaning.specs.Edit.{IsModel, lines_alone}
 use Rattle.theory_meaning.specs.ModelFault as meaning
 use Rattle.theory_meaning.specs.ModelFault.{ModelFault}
 use Rattle.theory_meaning.specs.Point.{Name}
@@ -8,10 +8,10 @@ use Rattle.theory_meaning.specs.Text.{Numbered}
 use Rattle.theory_meaning.specs.Tree.{Line}
 use Rattle.theory_grammar.specs.TextFault.{Fault, cut_lines}
 use Rattle.theory_grammar.specs.Texts.{SpellsLines, IsFirstFault}
-use Rattle.theory_model.specs.Told.{printed_kind as printed_model_kind}
-use Rattle.theory_text.specs.Told.{printed_kind as printed_text_kind}
+use Rattle.theory_model.specs.Message.{printed_kind as printed_model_kind}
+use Rattle.theory_text.specs.Message.{printed_kind as printed_text_kind}
 use Rattle.theory_one_variable.specs.OneVariable.{IsOneVariable}
-use Rattle.theory_one_variable.specs.ReadLines.{unnumbered, IsNotYet}
+use Rattle.theory_one_variable.specs.ReadLines.{IsNotYet}
 
 -- a fault of a text: its line, its column and its kind
 abbrev pub text_fault_text : Fault → List ℕ
@@ -41,4 +41,4 @@ pub record SpellsOneVariable (bytes : List ℕ) (model x : Name) (rows : List Li
   pub lines : List Numbered
   pub spelled : SpellsLines bytes lines
   pub checked : IsModel lines
-  pub one_variable : IsOneVariable model x rows (unnumbered lines)
+  pub one_variable : IsOneVariable model x rows (lines_alone lines)

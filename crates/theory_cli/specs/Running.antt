@@ -1,7 +1,8 @@
 -- The steps of a run: how a check of a file stops, and what is reported on err.
-use Rattle.std.specs.Prelude.{◌≡◌, ◌≢◌, ◌⊎◌, ℕ, List, [], ◌++◌, Option, Result, Ok, Err, codes}
-use Rattle.theory_meaning.specs.Faults.{Rose, Took, TookPart}
-use Rattle.theory_edge.specs.Files.{Texts, IsRead}
+use Rattle.std.specs.Prelude.{◌≡◌, ◌⊎◌, ℕ, List, ◌++◌, Result, Ok, Err, codes}
+use Rattle.theory_meaning.specs.Faults.{Rose}
+use Rattle.theory_edge.specs.Files.{FilesTold}
+use Rattle.theory_edge.specs.Sinks.{SinkTold}
 use Rattle.theory_cli.specs.declared.reply.Reply.{Reply}
 use Rattle.theory_cli.specs.declared.status.Status.{Status}
 use Rattle.theory_cli.specs.declared.status.Status.TheVariants as status
@@ -13,11 +14,11 @@ use Rattle.theory_model.specs.Checked as model
 use Rattle.theory_text.specs.Answers as text
 use Rattle.theory_one_variable.specs.Rows.{row_lines}
 use Rattle.theory_one_variable.specs.declared.text.Text.{Text}
+use Rattle.theory_cli.specs.Command.{Given, not_asked, no_bytes, gave, check_words, AreWords, IsGiven, IsAsked}
 use Rattle.theory_cli.specs.Printed.{line_end}
 use Rattle.theory_cli.specs.Refusal.{text_fault_text, model_fault_text, not_yet_text, IsRefusal, SpellsOneVariable}
-use Rattle.theory_cli.specs.Session.{AreReplies, AreFirstReplies, replies_text}
-use Rattle.theory_cli.specs.Telling.{IsTold, IsCutOff}
-use Rattle.theory_cli.specs.Ending.{FileCounts, FailedSince, text_limit, OfFile, IsRefused, IsCheck, IsOutput, IsCause, IsErrors, SinkCounts}
+use Rattle.theory_cli.specs.Ending.{IsCause, IsErrLine, IsWritten, no_memory_line}
+use Rattle.theory_cli.specs.Run.{AreMade, IsOutput}
 
 -- what is told of a refusal behind the name of the file
 abbrev pub refusal_text : Refusal → List ℕ
@@ -37,27 +38,23 @@ abbrev pub IsParsed : List ℕ → Result Text Stop → Type 0
 IsParsed bytes (Ok t) = SpellsOneVariable bytes t.model t.variable (row_lines t.variable t.rows.items)
 IsParsed bytes (Err stop) = StopsAt bytes stop
 
--- a text was read from the file, or why it wasn't
-abbrev pub ReadsFile : Texts → List ℕ → FileCounts → Result Text Stop → Type 0
-ReadsFile texts file files (Ok t) =
-    (bytes : List ℕ) × IsRead texts file text_limit bytes × SpellsOneVariable bytes t.model t.variable (row_lines t.variable t.rows.items)
-ReadsFile texts file files (Err (Refused r)) = IsRefused texts file (refusal_text r)
-ReadsFile texts file files (Err Unread) = FailedSince files file
-ReadsFile texts file files (Err Unwritten) = ⊥
-ReadsFile texts file files (Err NoMemory) = Unit {0}
+-- a check of this file was given this, and asked for it once where it got that far
+pub record HasRead (file : List ℕ) (given : Given) (before now : FilesTold) : Type 0 where
+  pub command : AreWords (check_words file) given
+  pub read : IsGiven before.texts given
+  pub asked : IsAsked given before now
 
--- how a check of the file stopped, with the replies that were made and what out took
-abbrev pub IsStop : Texts → List ℕ → FileCounts → List Reply → Option (List ℕ) → Option (List ℕ) → ℕ → ℕ → Result (Unit {0}) Stop → Type 0
-IsStop texts file files replies held held' faults faults' (Ok _) =
-    OfFile texts file (λ model x lines. AreReplies model x lines replies) × IsTold (replies_text replies) held held' faults faults'
-IsStop texts file files replies held held' faults faults' (Err (Refused r)) =
-    IsRefused texts file (refusal_text r) × (replies ≡ []) × IsTold [] held held' faults faults'
-IsStop texts file files replies held held' faults faults' (Err Unread) =
-    FailedSince files file × (replies ≡ []) × IsTold [] held held' faults faults'
-IsStop texts file files replies held held' faults faults' (Err Unwritten) =
-    OfFile texts file (λ model x lines. AreFirstReplies model x lines replies) × IsCutOff (replies_text replies) held held' faults faults'
-IsStop texts file files replies held held' faults faults' (Err NoMemory) =
-    ((replies ≡ []) ⊎ OfFile texts file (λ model x lines. AreFirstReplies model x lines replies)) × IsTold (replies_text replies) held held' faults faults'
+-- what was given as a text, or why it is none
+abbrev pub GivesText : Given → FilesTold → FilesTold → Result Text Stop → Type 0
+GivesText (gave file bytes) before now parsed = IsParsed bytes parsed
+GivesText (no_bytes file) before now (Err Unread) = Rose before.faults now.faults
+GivesText (no_bytes file) before now (Err NoMemory) = Unit {0}
+GivesText (not_asked file) before now (Err NoMemory) = Unit {0}
+GivesText given before now parsed = ⊥
+
+-- the file was read as a text, or why it wasn't
+abbrev pub ReadsFile : List ℕ → FilesTold → FilesTold → Result Text Stop → Type 0
+ReadsFile file before now parsed = (given : Given) × HasRead file given before now × GivesText given before now parsed
 
 -- the status that a stop means
 abbrev pub meant_by : Stop → Status
@@ -66,32 +63,39 @@ meant_by Unread = status.Unread
 meant_by Unwritten = status.Unwritten
 meant_by NoMemory = status.NoMemory
 
--- the line of want of memory
-abbrev pub no_memory_line : List ℕ
-no_memory_line = codes "theory: no memory" ++ line_end
+-- the end that a check reached
+abbrev pub reached_by : Result (Unit {0}) Stop → Status
+reached_by (Ok _) = status.Finished
+reached_by (Err stop) = meant_by stop
 
 -- the line on err that goes with a stop of a run on this file
 abbrev pub stop_line : List ℕ → Stop → List ℕ
 stop_line file (Refused r) = file ++ refusal_text r ++ line_end
 stop_line file Unread = codes "theory: cannot read " ++ file ++ line_end
-stop_line file Unwritten = []
+stop_line file Unwritten = no_memory_line
 stop_line file NoMemory = no_memory_line
 
--- the line was written and the run ends as meant, or a beginning of it was and the write failed
-abbrev pub IsWritten : Status → List ℕ → Option (List ℕ) → Option (List ℕ) → ℕ → ℕ → Status → Type 0
-IsWritten meant line held held' faults faults' ended =
-    ((ended ≡ meant) × Took held held' line) ⊎ ((ended ≡ status.Unwritten) × TookPart held held' line × Rose faults faults')
+-- the line of a stop is that of its end; a check that didn't stop, or whose write failed, has none
+abbrev pub HasLine : List ℕ → Given → Result (Unit {0}) Stop → Type 0
+HasLine file given (Ok _) = Unit {0}
+HasLine file given (Err Unwritten) = Unit {0}
+HasLine file given (Err stop) = IsErrLine given (meant_by stop) (stop_line file stop)
 
--- a stop is reported on err, or that memory is wanting for it
-abbrev pub Reports : List ℕ → Stop → Option (List ℕ) → Option (List ℕ) → ℕ → ℕ → Status → Type 0
-Reports file stop held held' faults faults' ended =
-    IsWritten (meant_by stop) (stop_line file stop) held held' faults faults' ended
-    ⊎ ((stop ≢ Unwritten) × IsWritten status.NoMemory no_memory_line held held' faults faults' ended)
+-- the facts of a check of this file, but for its end on err
+pub record Checks (file : List ℕ) (given : Given) (files files' : FilesTold) (replies : List Reply) (out out' : SinkTold)
+    (stopped : Result (Unit {0}) Stop) : Type 0 where
+  pub read : HasRead file given files files'
+  pub cause : IsCause given files files' (reached_by stopped)
+  pub made : AreMade given (reached_by stopped) replies
+  pub output : IsOutput (reached_by stopped) replies out out'
+  pub line : HasLine file given stopped
 
--- the clauses of a whole run
-pub record IsRun (words : List (List ℕ)) (texts : Texts) (files : FileCounts) (sinks : SinkCounts)
-    (replies : List Reply) (out out' err err' : Option (List ℕ)) (ended : Status) : Type 0 where
-  pub check : IsCheck words texts ended replies
-  pub output : IsOutput ended out out' (replies_text replies)
-  pub cause : IsCause words texts files sinks ended
-  pub errors : IsErrors words texts files sinks ended err err'
+-- a check of this file was given something of which its facts are true
+abbrev pub IsChecked : List ℕ → FilesTold → FilesTold → List Reply → SinkTold → SinkTold → Result (Unit {0}) Stop → Type 0
+IsChecked file files files' replies out out' stopped = (given : Given) × Checks file given files files' replies out out' stopped
+
+-- a stop is reported on err, or that memory is wanting for it; behind a write to out that failed err is left as it was
+abbrev pub Reports : List ℕ → Stop → SinkTold → SinkTold → Status → Type 0
+Reports file Unwritten before now ended = (ended ≡ status.Unwritten) × (now ≡ before)
+Reports file stop before now ended =
+    IsWritten (meant_by stop) (stop_line file stop) before now ended ⊎ IsWritten status.NoMemory no_memory_line before now ended

@@ -1,79 +1,86 @@
 -- The replies of one `check`: the model is created, and each of its claims is asked.
-use Rattle.std.specs.Prelude.{◌≡◌, ℕ, List, [], ◌∷◌, ◌++◌, None}
+use Rattle.std.specs.Prelude.{◌≡◌, ℕ, List, [], ◌∷◌, ◌++◌, Option, None, is_some}
+use Rattle.theory_meaning.specs.declared.words.Kind.{Kind}
+use Rattle.theory_meaning.specs.declared.words.Kind.TheVariants.{Listed}
+use Rattle.theory_meaning.specs.Answer.{IsAnswerBy}
+use Rattle.theory_meaning.specs.Declarations.{listed_in}
+use Rattle.theory_meaning.specs.Half.{Half}
+use Rattle.theory_meaning.specs.Model.{IsRightAnswer}
 use Rattle.theory_meaning.specs.Point.{Name}
-use Rattle.theory_meaning.specs.Tree.{Claim, Line}
-use Rattle.theory_meaning.specs.Half.{IsRightHalf, IsClosedHalf}
-use Rattle.theory_meaning.specs.Verdict.{verdict_of_halves, IsRightVerdict}
-use Rattle.theory_meaning.specs.Truth.{Meets}
-use Rattle.theory_meaning.specs.Question.{IsTrueAt}
-use Rattle.theory_method.specs.WrittenHalf.{IsWrittenHalf}
+use Rattle.theory_meaning.specs.Question.{assumptions_of}
+use Rattle.theory_meaning.specs.Text.{Numbered}
+use Rattle.theory_meaning.specs.Tree.{Claim, Line, model, var, claim}
+use Rattle.theory_meaning.specs.Edit.{lines_alone}
+use Rattle.theory_one_variable.specs.WrittenHalf.{IsWrittenHalf}
 use Rattle.theory_verdict.specs.declared.answer.Answer.{Answer}
 use Rattle.theory_verdict.specs.Plain.{half_of}
 use Rattle.theory_cli.specs.declared.reply.Reply.{Reply}
 use Rattle.theory_cli.specs.declared.reply.Reply.TheVariants as reply
-use Rattle.theory_one_variable.specs.OneVariable.{assumptions_of, claims_of, example_sentence, counter_sentence}
-use Rattle.theory_cli.specs.Printed.{created_text, question_text, halves_text}
+use Rattle.theory_cli.specs.Printed.{created_text, question_text, halves_text, region_line}
 
 -- the version of a model that was just created
 abbrev pub first_version : ℕ
 first_version = 1
 
--- the answer to one claim of a model about x: both halves as written, each of them right, the right verdict, and no region
-pub record IsAnswer (model x : Name) (assumed : List Claim) (label : Name) (c : Claim) (a : Answer) : Type 0 where
-  pub model_is : a.model ≡ model
+-- a claim that is asked: its label, its shift and what it says
+abbrev pub Asked : Type 0
+Asked = Name × Option Name × Claim
+
+-- the claims of lines, in their order
+abbrev pub asked_in : List Line → List Asked
+asked_in [] = []
+asked_in (claim label shift c ∷ lines) = (label, shift, c) ∷ asked_in lines
+asked_in (_ ∷ lines) = asked_in lines
+
+-- the answer to one claim of a model: halves that may be given, the table's verdict, all of it right of the model, and no region
+pub record IsAnswer (May : List Claim → Kind → Half → Type 0) (kind : Kind) (name : Name) (lines : List Numbered) (asked : Asked) (a : Answer) : Type 0 where
+  pub model_is : a.model ≡ name
   pub version_is : a.version ≡ first_version
-  pub claim_is : a.claim ≡ label
-  pub symbols_are : a.symbols ≡ x ∷ []
-  pub example : IsWrittenHalf x (example_sentence assumed c) (half_of a.example)
-  pub counter : IsWrittenHalf x (counter_sentence assumed c) (half_of a.counter)
-  pub example_right : IsRightHalf (example_sentence assumed c) (half_of a.example)
-  pub counter_right : IsRightHalf (counter_sentence assumed c) (half_of a.counter)
-  pub verdict_right : IsRightVerdict (Meets assumed) (IsTrueAt c) a.verdict
-  pub verdict_is : a.verdict ≡ verdict_of_halves (half_of a.example) (half_of a.counter)
+  pub claim_is : a.claim ≡ asked.0
+  pub symbols_are : a.symbols ≡ listed_in (is_some asked.1) lines
+  pub given : IsAnswerBy May kind (assumptions_of (lines_alone lines)) asked.2 (half_of a.example) (half_of a.counter) a.verdict
+  pub right : IsRightAnswer lines asked.1 asked.2 (half_of a.example) (half_of a.counter) a.verdict
   pub no_region : a.region ≡ None
 
+-- of claims about one name the written half may be given, whatever the order
+abbrev pub MayBeOfOneName : Name → List Claim → Kind → Half → Type 0
+MayBeOfOneName x sentence kind half = IsWrittenHalf x sentence half
+
+-- the answer to one claim of a model about x with these rows behind its first two lines, whatever numbers the lines have
+abbrev pub IsAnswerAbout : Name → Name → List Line → Asked → Answer → Type 0
+IsAnswerAbout name x rows asked a =
+    (lines : List Numbered) → lines_alone lines ≡ model name ∷ var x ∷ rows → IsAnswer (MayBeOfOneName x) Listed name lines asked a
+
 -- the answers to these claims, one for each in their order
-abbrev pub AreAnswers : Name → Name → List Claim → List (Name × Claim) → List Reply → Type 0
-AreAnswers model x assumed [] replies = replies ≡ []
-AreAnswers model x assumed (asked ∷ more) [] = ⊥
-AreAnswers model x assumed (asked ∷ more) (reply.Created c ∷ replies) = ⊥
-AreAnswers model x assumed (asked ∷ more) (reply.Answered a ∷ replies) =
-    IsAnswer model x assumed asked.0 asked.1 a × AreAnswers model x assumed more replies
+abbrev pub AreAnswers : (Asked → Answer → Type 0) → List Asked → List Reply → Type 0
+AreAnswers IsMet [] replies = replies ≡ []
+AreAnswers IsMet (asked ∷ more) [] = ⊥
+AreAnswers IsMet (asked ∷ more) (reply.Created c ∷ replies) = ⊥
+AreAnswers IsMet (asked ∷ more) (reply.Answered a ∷ replies) = IsMet asked a × AreAnswers IsMet more replies
 
 -- the reply to the creation of a model
 abbrev pub IsCreation : Name → Reply → Type 0
-IsCreation model (reply.Created c) = (c.model ≡ model) × (c.version ≡ first_version)
-IsCreation model (reply.Answered a) = ⊥
+IsCreation name (reply.Created c) = (c.model ≡ name) × (c.version ≡ first_version)
+IsCreation name (reply.Answered a) = ⊥
 
 -- the replies of a check of these rows: the creation and the answer to each claim
 abbrev pub AreReplies : Name → Name → List Line → List Reply → Type 0
-AreReplies model x rows [] = ⊥
-AreReplies model x rows (first ∷ answers) =
-    IsCreation model first × AreAnswers model x (assumptions_of rows) (claims_of rows) answers
+AreReplies name x rows [] = ⊥
+AreReplies name x rows (first ∷ answers) =
+    IsCreation name first × AreAnswers (IsAnswerAbout name x rows) (asked_in rows) answers
 
 -- a beginning of these replies: the creation and the answers to the first claims, or nothing
 abbrev pub AreFirstReplies : Name → Name → List Line → List Reply → Type 0
-AreFirstReplies model x rows [] = Unit {0}
-AreFirstReplies model x rows (first ∷ answers) =
-    IsCreation model first
-    × ((asked : List (Name × Claim)) × (more : List (Name × Claim)) × (asked ++ more ≡ claims_of rows) × AreAnswers model x (assumptions_of rows) asked answers)
-
--- no half is left open, and no region is told
-pub record IsClosedAnswer (a : Answer) : Type 0 where
-  pub example : IsClosedHalf (half_of a.example)
-  pub counter : IsClosedHalf (half_of a.counter)
-  pub no_region : a.region ≡ None
-
--- a reply with nothing left open
-abbrev pub IsClosed : Reply → Type 0
-IsClosed (reply.Created c) = Unit {0}
-IsClosed (reply.Answered a) = IsClosedAnswer a
+AreFirstReplies name x rows [] = Unit {0}
+AreFirstReplies name x rows (first ∷ answers) =
+    IsCreation name first
+    × ((asked : List Asked) × (more : List Asked) × (asked ++ more ≡ asked_in rows) × AreAnswers (IsAnswerAbout name x rows) asked answers)
 
 -- the printed form of a reply
 abbrev pub reply_text : Reply → List ℕ
 reply_text (reply.Created c) = created_text c.model c.version
 reply_text (reply.Answered a) =
-    question_text a.model a.version a.claim a.verdict ++ halves_text a.symbols (half_of a.example) (half_of a.counter)
+    question_text a.model a.version a.claim a.verdict ++ halves_text a.symbols (half_of a.example) (half_of a.counter) ++ region_line a.region
 
 -- the printed forms of replies, one after another
 abbrev pub replies_text : List Reply → List ℕ

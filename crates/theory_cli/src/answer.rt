@@ -1,7 +1,6 @@
-ghost use Rattle.std.specs.Prelude.{◌≡◌, [], ◌∷◌, IfOk};
-ghost use Rattle.theory_one_variable.specs.OneVariable.{assumptions_of};
+ghost use Rattle.std.specs.Prelude.{◌≡◌, [], ◌∷◌, None, IfOk};
 ghost use Rattle.theory_one_variable.specs.Rows.{row_lines, atom_claim};
-ghost use Rattle.theory_cli.specs.Session.{IsAnswer, IsClosedAnswer};
+ghost use Rattle.theory_cli.specs.Session.{IsAnswerAbout};
 
 use std::alloc::Global;
 use theory_one_variable::{Row, Text, half};
@@ -13,10 +12,9 @@ pub const FIRST_VERSION: u32 = 1;
 
 /// The answer to one claim of a text.
 pub fn answer(alloc: Global, text: &Text, row: &Row) -> Result<Answer, NoMemory>
-    ensures answer { IfOk result (IsAnswer text.now.model text.now.variable
-        (assumptions_of (row_lines text.now.variable text.now.rows.items)) row.now.label
-        (atom_claim text.now.variable row.now.atom)) }
-    ensures closed { IfOk result IsClosedAnswer }
+    ensures { IfOk result (IsAnswerAbout text.now.model text.now.variable
+        (row_lines text.now.variable text.now.rows.items)
+        (row.now.label, None, atom_claim text.now.variable row.now.atom)) }
 {
     let example = half(alloc, text, &row.atom, true)?;
     let counter = half(alloc, text, &row.atom, false)?;

@@ -26,7 +26,7 @@ pub fn parse(alloc: Global, bytes: &[u8]) -> Result<Text, Stop>
         Ok(lines) => lines,
         Err(error) => return Err(text_stop(error)),
     };
-    let model = match check(alloc, lines.as_slice()) {
+    let model = match check(alloc, lines) {
         Ok(model) => model,
         Err(fault) => return Err(model_stop(fault)),
     };

@@ -1,18 +1,19 @@
-ghost use Rattle.std.specs.Prelude.{◌≡◌, ◌++◌, IfOk, OnOk, decimal};
+ghost use Rattle.std.specs.Prelude.{◌≡◌, ◌++◌, IfOk, OnOk, codes, decimal};
 ghost use Rattle.std.specs.Fmt.{signed_decimal};
-ghost use Rattle.theory_verdict.specs.Plain.{half_of};
-ghost use Rattle.theory_cli.specs.Printed.{fraction_text, entry_text, further_text, point_text, half_text, verdict_text, subject_text, question_text, half_line, halves_text, created_text, line_end};
-ghost use Rattle.theory_cli.specs.Session.{IsClosed, reply_text};
-ghost use Rattle.theory_meaning.specs.Half.{IsClosedHalf};
+ghost use Rattle.theory_verdict.specs.Plain.{cause_of, half_of};
+ghost use Rattle.theory_cli.specs.Printed.{entry_text, further_text, point_text, cause_text, half_text, subject_text, question_text, half_line, halves_text, region_text, region_line, created_text, line_end};
+ghost use Rattle.theory_meaning.specs.Printed.{fraction_text, verdict_text};
+ghost use Rattle.theory_cli.specs.Session.{reply_text};
 
+use crate::causes::add_cause;
 use crate::reply::{Created, Reply};
 use std::alloc::Global;
 use theory_points::{Bytes, Frac, Name, Names, NoMemory, Point};
-use theory_verdict::{Answer, Half, Verdict};
+use theory_print::print_claim;
+use theory_verdict::{Answer, Cause, Half, Region, Verdict};
 
 /// The printed form of a reply, each line ended by a line feed.
 pub fn print(alloc: Global, reply: &Reply) -> Result<Bytes, NoMemory>
-    requires { IsClosed reply.now }
     ensures { IfOk result (λ text. text ≡ reply_text reply.now) }
 {
     match reply {
@@ -34,15 +35,14 @@ fn created_line(alloc: Global, created: &Created) -> Result<Bytes, NoMemory>
 }
 
 fn answer_lines(alloc: Global, answer: &Answer) -> Result<Bytes, NoMemory>
-    requires example { IsClosedHalf (half_of answer.now.example) }
-    requires counter { IsClosedHalf (half_of answer.now.counter) }
     ensures { IfOk result (λ text. text ≡
         question_text answer.now.model answer.now.version answer.now.claim answer.now.verdict
         ++ halves_text answer.now.symbols (half_of answer.now.example)
-        (half_of answer.now.counter)) }
+        (half_of answer.now.counter) ++ region_line answer.now.region) }
 {
     let mut text = question_line(alloc, answer)?;
     add_halves(alloc, &mut text, answer)?;
+    add_region_line(alloc, &mut text, &answer.region)?;
     Ok(text)
 }
 
@@ -71,8 +71,6 @@ fn add_subject(alloc: Global, text: &mut Bytes, answer: &Answer) -> Result<(), N
 }
 
 fn add_halves(alloc: Global, text: &mut Bytes, answer: &Answer) -> Result<(), NoMemory>
-    requires example { IsClosedHalf (half_of answer.now.example) }
-    requires counter { IsClosedHalf (half_of answer.now.counter) }
     ensures { OnOk result (text.new ≡ text.old ++ halves_text answer.now.symbols
         (half_of answer.now.example) (half_of answer.now.counter)) }
 {
@@ -99,13 +97,45 @@ fn add_half_line(
     symbols: &Names,
     half: &Half,
 ) -> Result<(), NoMemory>
-    requires { IsClosedHalf (half_of half.now) }
     ensures { OnOk result
         (text.new ≡ text.old ++ half_line word.now symbols.now (half_of half.now)) }
 {
     text.extend(word)?;
     add_half(alloc, text, symbols.as_slice(), half)?;
     text.extend(b"\n")
+}
+
+fn add_region_line(alloc: Global, text: &mut Bytes, region: &Option<Region>) -> Result<(), NoMemory>
+    ensures { OnOk result (text.new ≡ text.old ++ region_line region.now) }
+{
+    match region {
+        None => Ok(()),
+        Some(region) => add_condition_line(alloc, text, region),
+    }
+}
+
+fn add_condition_line(alloc: Global, text: &mut Bytes, region: &Region) -> Result<(), NoMemory>
+    ensures { OnOk result
+        (text.new ≡ text.old ++ codes "  holds where: " ++ region_text region.now ++ line_end) }
+{
+    text.extend(b"  holds where: ")?;
+    add_region(alloc, text, region)?;
+    text.extend(b"\n")
+}
+
+fn add_region(alloc: Global, text: &mut Bytes, region: &Region) -> Result<(), NoMemory>
+    ensures { OnOk result (text.new ≡ text.old ++ region_text region.now) }
+{
+    match region {
+        Region::Known(condition) => {
+            let printed = print_claim(alloc, condition)?;
+            text.extend(printed.as_slice())
+        }
+        Region::Unknown(cause) => {
+            text.extend(b"unknown, ")?;
+            add_cause(alloc, text, cause)
+        }
+    }
 }
 
 fn verdict_word(verdict: Verdict) -> &'static [u8]
@@ -121,15 +151,22 @@ fn verdict_word(verdict: Verdict) -> &'static [u8]
 }
 
 fn add_half(alloc: Global, text: &mut Bytes, symbols: &[Name], half: &Half) -> Result<(), NoMemory>
-    requires { IsClosedHalf (half_of half.now) }
     ensures { OnOk result (text.new ≡ text.old ++ half_text symbols.now (half_of half.now)) }
 {
     match half {
         Half::Found(point) => add_point(alloc, text, symbols, point),
         Half::FoundWide => text.extend(b"some point, not printable"),
         Half::Absent => text.extend(b"none"),
-        Half::Left(_) => unreachable!(),
+        Half::Left(cause) => add_left(alloc, text, cause),
     }
+}
+
+fn add_left(alloc: Global, text: &mut Bytes, cause: &Cause) -> Result<(), NoMemory>
+    ensures { OnOk result
+        (text.new ≡ text.old ++ codes "undecided, " ++ cause_text (cause_of cause.now)) }
+{
+    text.extend(b"undecided, ")?;
+    add_cause(alloc, text, cause)
 }
 
 fn add_point(

@@ -1,6 +1,7 @@
 ghost use Rattle.std.specs.Prelude.{◌≡◌, ◌++◌, IfOk, codes, string_bytes};
 ghost use Rattle.theory_cli.specs.Printed.{line_end};
-ghost use Rattle.theory_cli.specs.Running.{IsWritten, Reports, refusal_text};
+ghost use Rattle.theory_cli.specs.Ending.{IsWritten, no_command_line, no_memory_line};
+ghost use Rattle.theory_cli.specs.Running.{Reports, refusal_text};
 
 use crate::refusal::{Refusal, add_refusal};
 use crate::running::Stop;
@@ -11,8 +12,7 @@ use theory_points::{Bytes, NoMemory};
 
 /// Writes the line of a stop to err, and says how the run ends.
 pub fn report<E: Sink>(alloc: Global, file: &String, stop: Stop, err: &mut E) -> Status
-    ensures { Reports (string_bytes file.now) stop (E.held err.old) (E.held err.new)
-        (E.fault_count err.old) (E.fault_count err.new) result }
+    ensures { Reports (string_bytes file.now) stop (E.told err.old) (E.told err.new) result }
 {
     match stop {
         Stop::Refused(refusal) => match refused(alloc, file, refusal) {
@@ -30,8 +30,8 @@ pub fn report<E: Sink>(alloc: Global, file: &String, stop: Stop, err: &mut E) ->
 
 /// Writes that the words are no command.
 pub fn report_no_command<E: Sink>(err: &mut E) -> Status
-    ensures { IsWritten Status.NoCommand (codes "theory: these words are no command" ++ line_end)
-        (E.held err.old) (E.held err.new) (E.fault_count err.old) (E.fault_count err.new) result }
+    ensures { IsWritten Status.NoCommand no_command_line (E.told err.old) (E.told err.new)
+        result }
 {
     write_line(
         b"theory: these words are no command\n",
@@ -42,15 +42,13 @@ pub fn report_no_command<E: Sink>(err: &mut E) -> Status
 
 /// Writes that memory is wanting.
 pub fn report_no_memory<E: Sink>(err: &mut E) -> Status
-    ensures { IsWritten Status.NoMemory (codes "theory: no memory" ++ line_end)
-        (E.held err.old) (E.held err.new) (E.fault_count err.old) (E.fault_count err.new) result }
+    ensures { IsWritten Status.NoMemory no_memory_line (E.told err.old) (E.told err.new) result }
 {
     write_line(b"theory: no memory\n", Status::NoMemory, err)
 }
 
 fn write_line<E: Sink>(line: &[u8], meant: Status, err: &mut E) -> Status
-    ensures { IsWritten meant line.now (E.held err.old) (E.held err.new) (E.fault_count err.old)
-        (E.fault_count err.new) result }
+    ensures { IsWritten meant line.now (E.told err.old) (E.told err.new) result }
 {
     match err.write(line) {
         Ok(()) => meant,

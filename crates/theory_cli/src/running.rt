@@ -1,6 +1,7 @@
 ghost use Rattle.std.specs.Prelude.{◌≡◌, List, ℕ, [], map, MatchOption, string_bytes};
-ghost use Rattle.theory_cli.specs.Ending.{IsCommand};
-ghost use Rattle.theory_cli.specs.Running.{ReadsFile, IsStop, IsRun};
+ghost use Rattle.theory_cli.specs.Command.{IsCommand, check_words};
+ghost use Rattle.theory_cli.specs.Run.{IsRun};
+ghost use Rattle.theory_cli.specs.Running.{ReadsFile, IsChecked};
 
 use crate::parsing::parse;
 use crate::refusal::Refusal;
@@ -50,20 +51,10 @@ pub fn run<F: Files, O: Sink, E: Sink>(
     replies: &mut Replies,
 ) -> Status
     requires { replies.old ≡ [] }
-    ensures { (words : List (List ℕ)) → IsCommand words (string_bytes file.now) →
-        IsRun words (F.texts files.old)
-        record {
-          asking = F.asking files.new;
-          before = F.fault_count files.old;
-          now = F.fault_count files.new;
-        }
-        record {
-          out_before = O.fault_count out.old;
-          out_now = O.fault_count out.new;
-          err_before = E.fault_count err.old;
-          err_now = E.fault_count err.new;
-        }
-        replies.new (O.held out.old) (O.held out.new) (E.held err.old) (E.held err.new) result }
+    ensures { IsRun (check_words (string_bytes file.now))
+        record { files = F.told files.old; out = O.told out.old; err = E.told err.old }
+        record { files = F.told files.new; out = O.told out.new; err = E.told err.new }
+        result replies.new }
 {
     match check(alloc, file, files, out, replies) {
         Ok(()) => Status::Finished,
@@ -79,14 +70,8 @@ fn check<F: Files, O: Sink>(
     replies: &mut Replies,
 ) -> Result<(), Stop>
     requires { replies.old ≡ [] }
-    ensures { IsStop (F.texts files.old) (string_bytes file.now)
-        record {
-          asking = F.asking files.new;
-          before = F.fault_count files.old;
-          now = F.fault_count files.new;
-        }
-        replies.new (O.held out.old) (O.held out.new) (O.fault_count out.old)
-        (O.fault_count out.new) result }
+    ensures { IsChecked (string_bytes file.now) (F.told files.old) (F.told files.new)
+        replies.new (O.told out.old) (O.told out.new) result }
 {
     let text = match read_file(alloc, file, files) {
         Ok(text) => text,
@@ -100,12 +85,7 @@ fn check<F: Files, O: Sink>(
 }
 
 fn read_file<F: Files>(alloc: Global, file: &String, files: &mut F) -> Result<Text, Stop>
-    ensures { ReadsFile (F.texts files.old) (string_bytes file.now)
-        record {
-          asking = F.asking files.new;
-          before = F.fault_count files.old;
-          now = F.fault_count files.new;
-        } result }
+    ensures { ReadsFile (string_bytes file.now) (F.told files.old) (F.told files.new) result }
 {
     let name = match file.clone() {
         Ok(name) => name,

@@ -1,6 +1,6 @@
-ghost use Rattle.std.specs.Prelude.{◌≡◌, [], ◌∷◌, ◌++◌};
+ghost use Rattle.std.specs.Prelude.{◌≡◌, [], ◌∷◌, ◌++◌, None};
 ghost use Rattle.theory_one_variable.specs.Rows.{row_lines, atom_claim};
-ghost use Rattle.theory_cli.specs.Session.{IsClosed, IsCreation, reply_text};
+ghost use Rattle.theory_cli.specs.Session.{IsCreation, reply_text};
 ghost use Rattle.theory_cli.specs.Telling.{Tells, TellsOne, IsAnswering, Answers};
 
 use crate::answer::{FIRST_VERSION, answer};
@@ -40,8 +40,8 @@ pub fn reply_to<O: Sink>(
 ) -> Result<(), Halt>
     requires { replies.old ≡ [] }
     ensures { Answers text.now.model text.now.variable
-        (row_lines text.now.variable text.now.rows.items) replies.new (O.held out.old)
-        (O.held out.new) (O.fault_count out.old) (O.fault_count out.new) result }
+        (row_lines text.now.variable text.now.rows.items) replies.new (O.told out.old)
+        (O.told out.new) result }
 {
     if let Err(halt) = tell_creation(alloc, text, out, replies) {
         return Err(halt);
@@ -65,8 +65,8 @@ fn tell_creation<O: Sink>(
     out: &mut O,
     replies: &mut Replies,
 ) -> Result<(), Halt>
-    ensures { TellsOne (IsCreation text.now.model) replies.old replies.new (O.held out.old)
-        (O.held out.new) (O.fault_count out.old) (O.fault_count out.new) result }
+    ensures { TellsOne (IsCreation text.now.model) replies.old replies.new (O.told out.old)
+        (O.told out.new) result }
 {
     let created = Created {
         model: text.model.copy(alloc)?,
@@ -84,8 +84,8 @@ fn tell_answer<O: Sink>(
 ) -> Result<(), Halt>
     ensures { TellsOne (IsAnswering text.now.model text.now.variable
         (row_lines text.now.variable text.now.rows.items)
-        (row.now.label, atom_claim text.now.variable row.now.atom)) replies.old replies.new
-        (O.held out.old) (O.held out.new) (O.fault_count out.old) (O.fault_count out.new) result }
+        (row.now.label, None, atom_claim text.now.variable row.now.atom)) replies.old replies.new
+        (O.told out.old) (O.told out.new) result }
 {
     let answered = answer(alloc, text, row)?;
     tell(alloc, Reply::Answered(answered), out, replies)
@@ -98,9 +98,7 @@ fn tell<O: Sink>(
     out: &mut O,
     replies: &mut Replies,
 ) -> Result<(), Halt>
-    requires { IsClosed reply }
-    ensures { Tells reply replies.old replies.new (O.held out.old) (O.held out.new)
-        (O.fault_count out.old) (O.fault_count out.new) result }
+    ensures { Tells reply replies.old replies.new (O.told out.old) (O.told out.new) result }
 {
     let text = print(alloc, &reply)?;
     replies.push(reply)?;

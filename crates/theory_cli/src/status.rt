@@ -1,16 +1,35 @@
-/// How a run ended; the number of each is the exit status of the program.
+ghost use Rattle.std.specs.Prelude.{◌≡◌};
+ghost use Rattle.theory_cli.specs.Ending.{exit_number};
+
+/// How a run ended.
 #[derive(Clone, Copy, Debug, PartialEq, Eq)]
 pub enum Status {
     /// Every reply was made and written.
-    Finished = 0,
+    Finished,
     /// The words are no command.
-    NoCommand = 2,
+    NoCommand,
     /// The text of the file or its model is refused, or not decided yet.
-    Refused = 3,
+    Refused,
     /// The file can't be read.
-    Unread = 5,
+    Unread,
     /// A write to out or err failed.
-    Unwritten = 6,
+    Unwritten,
     /// Want of memory.
-    NoMemory = 9,
+    NoMemory,
+}
+
+impl Status {
+    /// The exit status of the program.
+    pub fn number(self) -> u8
+        ensures { result ≡ exit_number self }
+    {
+        match self {
+            Status::Finished => 0,
+            Status::NoCommand => 2,
+            Status::Refused => 3,
+            Status::Unread => 5,
+            Status::Unwritten => 6,
+            Status::NoMemory => 9,
+        }
+    }
 }

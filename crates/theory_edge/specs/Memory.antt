@@ -4,7 +4,8 @@ use Rattle.std.specs.Str.{bytes_eq}
 use Rattle.theory_edge.specs.declared.files.EndFault.{EndFault}
 use Rattle.theory_edge.specs.declared.files.EndFault.TheVariants.{Failed, NoMemory}
 use Rattle.theory_edge.specs.declared.memory.MemText.{MemText}
-use Rattle.theory_edge.specs.Files.{Asking, Texts, one_more, faults_after}
+use Rattle.theory_edge.specs.Files.{Asking, Texts, FilesTold, one_more, faults_after}
+use Rattle.theory_edge.specs.Sinks.{SinkTold}
 
 -- texts by name, which calls fail, how many calls and faults there were, and what was last asked for
 pub record MemFilesState : Type 0 where
@@ -43,6 +44,14 @@ text_under (entry ∷ rest) name =
 -- every text is told
 abbrev pub mem_texts : MemFilesState → Texts
 mem_texts files = Some (text_under files.texts)
+
+-- what files in memory tell; each call is a read
+abbrev pub mem_told : MemFilesState → FilesTold
+mem_told files = record { texts = mem_texts files; reads = files.calls; asked = files.asked; faults = files.faults }
+
+-- what a sink in memory tells
+abbrev pub mem_sink_told : MemSinkState → SinkTold
+mem_sink_told sink = record { held = Some sink.held; faults = sink.faults }
 
 -- the next read of this name is one of those that fail, or the name is missing
 abbrev pub ReadFails : MemFilesState → List ℕ → Type 0

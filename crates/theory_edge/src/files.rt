@@ -1,7 +1,7 @@
-ghost use Rattle.std.specs.Prelude.{◌≡◌, ℕ, ◌+◌, List, Option, IfOk, take, string_bytes};
+ghost use Rattle.std.specs.Prelude.{◌≡◌, ℕ, ◌+◌, List, Some, IfOk, take, string_bytes};
 ghost use Rattle.theory_meaning.specs.Faults.{HasCause};
 ghost use Rattle.theory_edge.specs.declared.files.EndFault.TheVariants.{NoMemory};
-ghost use Rattle.theory_edge.specs.Files.{IsRead, IsAsked, faults_after};
+ghost use Rattle.theory_edge.specs.Files.{FilesTold, IsRead, one_more, faults_after};
 
 use std::alloc::{AllocError, AllocFailed, Global};
 use std::error::Error;
@@ -20,9 +20,9 @@ pub enum EndFault {
 
 impl fmt::Display for EndFault {
     ghost use Rattle.std.specs.Prelude.{Some};
-    ghost use Rattle.theory_edge.specs.Told.{told_by};
+    ghost use Rattle.theory_edge.specs.Message.{message_of};
 
-    ghost output = { λ fault. Some (told_by fault) };
+    ghost output = { λ fault. Some (message_of fault) };
 
     fn fmt<W: fmt::Write>(&self, f: &mut fmt::Formatter<W>) -> fmt::Result {
         f.write_str(match self {
@@ -60,28 +60,24 @@ impl<T: Drop> From<AllocFailed<T>> for EndFault {
 
 /// Files that are read by name, one call a file.
 pub trait Files {
-    /// The text under each name, where the files tell them.
-    ghost texts: { Self → Option (List ℕ → Option (List ℕ)) };
-
-    /// How often a call has failed.
-    ghost fault_count: { Self → ℕ };
-
-    /// The name given to the last `read`, and the count of faults when it began.
-    ghost asking: { Self → Option (List ℕ × ℕ) };
+    /// The texts, how many reads were made, the last of them, and how often one failed.
+    ghost told: { Self → FilesTold };
 
     /// The first bytes of the named text, at most one more than the limit.
     fn read(&mut self, alloc: Global, name: String, limit: usize) -> Result<Bytes, EndFault>
         ensures read { IfOk result (λ bytes.
-            IsRead (texts self.old) (string_bytes name) limit bytes) }
-        ensures same { texts self.new ≡ texts self.old }
-        ensures asked { IsAsked (string_bytes name) (fault_count self.old) (asking self.new)
-            result }
-        ensures cause { HasCause EndFault.Failed (fault_count self.old) (fault_count self.new)
+            IsRead (told self.old).texts (string_bytes name) limit bytes) }
+        ensures same { (told self.new).texts ≡ (told self.old).texts }
+
+        // A read counts as one, whatever it gives, and the files were asked for this name.
+        ensures once { (told self.new).reads ≡ one_more (told self.old).reads }
+        ensures asked { (told self.new).asked ≡ Some (string_bytes name, (told self.old).faults) }
+        ensures cause { HasCause EndFault.Failed (told self.old).faults (told self.new).faults
             result };
 
     /// How often a call has failed; it stands still at 2^64 - 1.
     fn faults(&self) -> u64
-        ensures { result ≡ fault_count self.now };
+        ensures { result ≡ (told self.now).faults };
 }
 
 /// The name of the last read, and the count of faults when it began.

@@ -11,8 +11,6 @@ mod memory;
 mod real;
 mod sink;
 mod sure;
-#[cfg(test)]
-mod tests;
 
 pub use files::{EndFault, Files};
 pub use memory::{Calls, MemFiles, MemSink, MemText, MemTexts};

@@ -1,7 +1,7 @@
 ghost use Rattle.std.specs.Prelude.{◌≡◌, ◌⊎◌, ℕ, ◌≤◌, ◌↔◌, List, [], ◌∷◌, ◌++◌, map, Contains, option_copied, None, Some, IfOk, OnOk, OnErr, IsErr, IsTrue, string_bytes, vec_len, vec_capacity};
 ghost use Rattle.theory_meaning.specs.Faults.{HasCause, Rose, Took, TookPart};
-ghost use Rattle.theory_edge.specs.Files.{IsRead, IsAsked};
-ghost use Rattle.theory_edge.specs.Memory.{MemFilesState, MemSinkState, unread, unwritten, entry_of, text_under, mem_texts, ReadFails, FailsWhere, after_read, WriteFails, after_write};
+ghost use Rattle.theory_edge.specs.Files.{IsRead, one_more};
+ghost use Rattle.theory_edge.specs.Memory.{MemFilesState, MemSinkState, unread, unwritten, entry_of, text_under, mem_texts, mem_told, mem_sink_told, ReadFails, FailsWhere, after_read, WriteFails, after_write};
 
 use crate::files::{Asked, EndFault, Files, count_after, front};
 use crate::sink::{Failed, Sink};
@@ -153,17 +153,14 @@ impl MemFiles {
 }
 
 impl Files for MemFiles {
-    ghost texts = { mem_texts };
-
-    ghost fault_count = { λ f. f.faults };
-
-    ghost asking = { λ f. f.asked };
+    ghost told = { mem_told };
 
     fn read(&mut self, alloc: Global, name: String, limit: usize) -> Result<Bytes, EndFault>
         ensures read { IfOk result (λ bytes.
             IsRead (mem_texts self.old) (string_bytes name) limit bytes) }
         ensures same { mem_texts self.new ≡ mem_texts self.old }
-        ensures asked { IsAsked (string_bytes name) self.old.faults self.new.asked result }
+        ensures once { self.new.calls ≡ one_more self.old.calls }
+        ensures asked { self.new.asked ≡ Some (string_bytes name, self.old.faults) }
         ensures cause { HasCause EndFault.Failed self.old.faults self.new.faults result }
 
         ensures fails { FailsWhere (ReadFails self.old (string_bytes name)) result }
@@ -229,9 +226,7 @@ impl MemSink {
 }
 
 impl Sink for MemSink {
-    ghost held = { λ s. Some s.held };
-
-    ghost fault_count = { λ s. s.faults };
+    ghost told = { mem_sink_told };
 
     fn write(&mut self, piece: &[u8]) -> Result<(), Failed>
         ensures ok { OnOk result (Took (Some self.old.held) (Some self.new.held) piece.now) }

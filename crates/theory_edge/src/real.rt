@@ -1,6 +1,6 @@
 ghost use Rattle.std.specs.Prelude.{◌≡◌, ◌≤◌, None, OnErr, string_bytes};
 ghost use Rattle.theory_meaning.specs.Faults.{HasCause, Rose};
-ghost use Rattle.theory_edge.specs.Real.{after_real_read, after_real_write};
+ghost use Rattle.theory_edge.specs.Real.{real_told, stream_told, after_real_read, after_real_write};
 
 use crate::files::{Asked, EndFault, Files, count_after};
 use crate::sink::{Failed, Sink};
@@ -15,6 +15,7 @@ use theory_points::Bytes;
 #[derive(Drop)]
 pub struct RealFiles<R> {
     system: R,
+    reads: u64,
     faults: u64,
     asking: Option<Asked>,
 }
@@ -24,15 +25,16 @@ impl<R> Model for RealFiles<R> {
 
     ghost Value = { RealState };
 
-    ghost view = { λ f. record { faults = f.faults; asked = f.asking } };
+    ghost view = { λ f. record { reads = f.reads; faults = f.faults; asked = f.asking } };
 }
 
 impl<R> RealFiles<R> {
     pub fn new(system: R) -> Self
-        ensures { result ≡ record { faults = 0; asked = None } }
+        ensures { result ≡ record { reads = 0; faults = 0; asked = None } }
     {
         RealFiles {
             system,
+            reads: 0,
             faults: 0,
             asking: None,
         }
@@ -40,17 +42,14 @@ impl<R> RealFiles<R> {
 }
 
 impl<R: SystemFiles> Files for RealFiles<R> {
-    ghost texts = { λ _. None };
-
-    ghost fault_count = { λ f. f.faults };
-
-    ghost asking = { λ f. f.asked };
+    ghost told = { real_told };
 
     fn read(&mut self, alloc: Global, name: String, limit: usize) -> Result<Bytes, EndFault>
         ensures cause { HasCause EndFault.Failed self.old.faults self.new.faults result }
         ensures state { self.new ≡ after_real_read self.old (string_bytes name) result }
     {
         let before = self.faults;
+        self.reads = self.reads.saturating_add(1);
         let answer = front_of_file(&self.system, alloc, name.as_str(), limit);
         self.faults = count_after(before, &answer);
         self.asking = Some(Asked::new(name, before));
@@ -131,9 +130,7 @@ impl RealSink {
 }
 
 impl Sink for RealSink {
-    ghost held = { λ _. None };
-
-    ghost fault_count = { λ s. s };
+    ghost told = { stream_told };
 
     fn write(&mut self, piece: &[u8]) -> Result<(), Failed>
         ensures later { self.old ≤ self.new }

@@ -1,5 +1,6 @@
-ghost use Rattle.std.specs.Prelude.{◌≡◌, ℕ, ◌≤◌, List, Option, OnOk, OnErr};
+ghost use Rattle.std.specs.Prelude.{◌≡◌, ◌≤◌, OnOk, OnErr};
 ghost use Rattle.theory_meaning.specs.Faults.{Rose, Took, TookPart};
+ghost use Rattle.theory_edge.specs.Sinks.{SinkTold};
 
 use std::error::Error;
 use std::fmt;
@@ -22,21 +23,19 @@ impl Error for Failed {}
 
 /// What takes bytes, one piece a call, such as a stream or memory.
 pub trait Sink {
-    /// The bytes taken so far, where the sink tells them.
-    ghost held: { Self → Option (List ℕ) };
-
-    /// How often a call has failed.
-    ghost fault_count: { Self → ℕ };
+    /// The bytes taken so far, where the sink tells them, and how often a call failed.
+    ghost told: { Self → SinkTold };
 
     /// Takes the whole piece, or fails and may have taken a beginning of it.
     fn write(&mut self, piece: &[u8]) -> Result<(), Failed>
-        ensures ok { OnOk result (Took (held self.old) (held self.new) piece.now) }
-        ensures failed { OnErr result (TookPart (held self.old) (held self.new) piece.now) }
+        ensures ok { OnOk result (Took (told self.old).held (told self.new).held piece.now) }
+        ensures failed { OnErr result
+            (TookPart (told self.old).held (told self.new).held piece.now) }
 
-        ensures later { fault_count self.old ≤ fault_count self.new }
-        ensures cause { OnErr result (Rose (fault_count self.old) (fault_count self.new)) };
+        ensures later { (told self.old).faults ≤ (told self.new).faults }
+        ensures cause { OnErr result (Rose (told self.old).faults (told self.new).faults) };
 
     /// How often a call has failed; it stands still at 2^64 - 1.
     fn faults(&self) -> u64
-        ensures { result ≡ fault_count self.now };
+        ensures { result ≡ (told self.now).faults };
 }

@@ -1,6 +1,6 @@
-ghost use Rattle.std.specs.Prelude.{◌≡◌, ◌≢◌, None, Some, IfOk, IsOk, string_bytes};
+ghost use Rattle.std.specs.Prelude.{◌≡◌, ◌≢◌, None, IfOk, IsOk, string_bytes};
 ghost use Rattle.theory_edge.specs.Files.{IsRead};
-ghost use Rattle.theory_edge.specs.Sure.{sure_texts};
+ghost use Rattle.theory_edge.specs.Sure.{sure_texts, sure_told, after_sure_read, sure_sink};
 
 use crate::files::{Asked, EndFault, Files, front};
 use crate::sink::{Failed, Sink};
@@ -12,6 +12,7 @@ use theory_points::Bytes;
 #[derive(Debug, Drop)]
 pub struct SureFiles {
     text: Bytes,
+    reads: u64,
     asking: Option<Asked>,
 }
 
@@ -20,30 +21,31 @@ impl Model for SureFiles {
 
     ghost Value = { SureState };
 
-    ghost view = { λ f. record { text = f.text; asked = f.asking } };
+    ghost view = { λ f. record { text = f.text; reads = f.reads; asked = f.asking } };
 }
 
 impl SureFiles {
     pub fn new(text: Bytes) -> Self
-        ensures { result ≡ record { text = text; asked = None } }
+        ensures { result ≡ record { text = text; reads = 0; asked = None } }
     {
-        SureFiles { text, asking: None }
+        SureFiles {
+            text,
+            reads: 0,
+            asking: None,
+        }
     }
 }
 
 impl Files for SureFiles {
-    ghost texts = { sure_texts };
-
-    ghost fault_count = { λ _. 0 };
-
-    ghost asking = { λ f. f.asked };
+    ghost told = { sure_told };
 
     fn read(&mut self, alloc: Global, name: String, limit: usize) -> Result<Bytes, EndFault>
         ensures read { IfOk result (λ bytes.
             IsRead (sure_texts self.old) (string_bytes name) limit bytes) }
         ensures never_failed { result ≢ Err EndFault.Failed }
-        ensures state { self.new ≡ record self.old { asked = Some (string_bytes name, 0) } }
+        ensures state { self.new ≡ after_sure_read self.old (string_bytes name) }
     {
+        self.reads = self.reads.saturating_add(1);
         self.asking = Some(Asked::new(name, 0));
         Ok(front(alloc, self.text.as_slice(), limit)?)
     }
@@ -64,9 +66,7 @@ impl SureSink {
 }
 
 impl Sink for SureSink {
-    ghost held = { λ _. None };
-
-    ghost fault_count = { λ _. 0 };
+    ghost told = { λ _. sure_sink };
 
     fn write(&mut self, piece: &[u8]) -> Result<(), Failed>
         ensures never_failed { IsOk result }

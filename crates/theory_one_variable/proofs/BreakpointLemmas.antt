@@ -5,13 +5,29 @@ use Rattle.std.proofs.lemmas.List.{append-nil, drop_all}
 use Rattle.std.proofs.lemmas.List.Elements.{Contains-append_left, Contains-append_cases, Contains-push, Contains-push_cases}
 use Rattle.theory_meaning.specs.Fraction.{Fraction, IsSame, IsBelow, below, same}
 use Rattle.theory_meaning.proofs.OrderLaws.{below_or_same, fact_from_below, fact_from_same, same_itself, same_turned, same_from_fact, same_trans}
-use Rattle.theory_method.specs.Candidates.{IsAscending}
-use Rattle.theory_method.proofs.CandidateLaws.{Contains-first, Contains-rest}
+use Rattle.theory_one_variable.specs.Candidates.{IsAscending}
+use Rattle.theory_one_variable.proofs.CandidateLaws.{Contains-first, Contains-rest}
 use Rattle.theory_one_variable.specs.declared.text.Atom.{Atom}
 use Rattle.theory_one_variable.specs.declared.text.Role.{Role}
 use Rattle.theory_one_variable.specs.declared.text.Role.TheVariants.{Assumption, Claim as Asked}
 use Rattle.theory_one_variable.specs.declared.text.Row.{Row}
-use Rattle.theory_one_variable.specs.Roots.{IsRootOf, HasRoot, inserted, AddsRoot, AreRootsOf, atoms_by_role, assumption_atoms}
+use Rattle.theory_one_variable.specs.Roots.{IsRootOf, HasRoot, inserted, AddsRoot}
+
+-- a comparison counts where its row is an assumption
+abbrev pub atoms_by_role : Role → Atom → List Atom → List Atom
+atoms_by_role Assumption a atoms = a ∷ atoms
+atoms_by_role Asked a atoms = atoms
+
+-- the comparisons of the assumptions
+abbrev pub assumption_atoms : List Row → List Atom
+assumption_atoms [] = []
+assumption_atoms (row ∷ rows) = atoms_by_role row.role row.atom (assumption_atoms rows)
+
+-- the roots of these comparisons, upwards and each once
+pub record AreRootsOf (atoms : List Atom) (bs : List Fraction) : Type 0 where
+  pub ascending : IsAscending bs
+  pub only_roots : (b : Fraction) → Contains bs b → (a : Atom) × Contains atoms a × IsRootOf a b
+  pub all_roots : (a : Atom) (q : Fraction) → Contains atoms a → IsRootOf a q → (b : Fraction) × Contains bs b × IsSame b q
 
 -- what inserted gives at a first entry: in front of it, the same, or behind it
 record InsertedAt (r b : Fraction) (bs result : List Fraction) : Type 0 where

@@ -1,6 +1,14 @@
+pub mod CandidateLaws
+pub mod LineLaws
+pub mod TruthLaws
+pub mod AffineLaws
+pub mod MethodLaws
+pub mod ExampleLaws
+pub mod HalfLaws
 pub mod RootLemmas
 pub mod BreakpointLemmas
 pub mod TriedLemmas
 pub mod SentenceLemmas
 pub mod RowLaws
 pub mod ReadLaws
+pub mod AskingLaws

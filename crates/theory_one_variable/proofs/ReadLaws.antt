@@ -12,14 +12,15 @@ use Rattle.theory_one_variable.specs.declared.text.Row.{Row}
 use Rattle.theory_one_variable.specs.OneVariable.{IsOneVariable}
 use Rattle.theory_one_variable.specs.declared.lines.NotOneVariable.{NotOneVariable}
 use Rattle.theory_one_variable.specs.declared.lines.NotOneVariable.TheVariants.{NotYet, Memory}
-use Rattle.theory_one_variable.specs.ReadLines.{AreOneVariable, BeginOneVariable, unnumbered, IsNotYet, OfNumber}
+use Rattle.theory_meaning.specs.Edit.{lines_alone}
+use Rattle.theory_one_variable.specs.ReadLines.{AreOneVariable, BeginOneVariable, IsNotYet, OfNumber}
 use Rattle.theory_one_variable.specs.Rows.{row_lines}
 use Rattle.theory_one_variable.specs.RowRules.{AreRows, StandFor, AddsLine, RowsStopAt}
 use Rattle.theory_one_variable.proofs.RowLaws.{no_lines_are_rows, front_are_rows}
 
 -- the plain lines of a list of numbered ones
 abbrev pub plain_lines : List Numbered → List plain.Line
-plain_lines lines = unnumbered (lines_of lines)
+plain_lines lines = lines_alone (lines_of lines)
 
 plain_push : (lines : List Numbered) (n : Numbered) → plain_lines (lines ++ n ∷ []) ≡ plain_lines lines ++ line_of n.line ∷ []
 plain_push [] n = refl
@@ -125,7 +126,7 @@ no_model_begins_none l none h = none h.1.0 (first_of h.1.3.head)
 
 pub not_yet_first : (f : text.Numbered) (behind : List text.Numbered) (last : ℕ) → ((m : Name) → f.line ≡ plain.model m → ⊥) → IsNotYet (f ∷ behind) last f.at
 not_yet_first f behind last none = record {
-  none = stops_all (f.line ∷ []) (unnumbered behind) _ refl (no_model_begins_none f.line none);
+  none = stops_all (f.line ∷ []) (lines_alone behind) _ refl (no_model_begins_none f.line none);
   place = inl record {
     before = [];
     line = f;
@@ -144,7 +145,7 @@ no_var_begins_none k l none h = none h.1.1 (second_of h.1.3.head)
 pub not_yet_second : (f s : text.Numbered) (behind : List text.Numbered) (m : Name) (last : ℕ) → f.line ≡ plain.model m →
     ((x : Name) → s.line ≡ plain.var x → ⊥) → IsNotYet (f ∷ s ∷ behind) last s.at
 not_yet_second f s behind m last is none = record {
-  none = stops_all (f.line ∷ s.line ∷ []) (unnumbered behind) _ refl (no_var_begins_none f.line s.line none);
+  none = stops_all (f.line ∷ s.line ∷ []) (lines_alone behind) _ refl (no_var_begins_none f.line s.line none);
   place = inl record {
     before = f ∷ [];
     line = s;
@@ -157,9 +158,9 @@ not_yet_second f s behind m last is none = record {
 }
 
 -- rows that stop
-unnumbered_append : (a b : List text.Numbered) → unnumbered (a ++ b) ≡ unnumbered a ++ unnumbered b
-unnumbered_append [] b = refl
-unnumbered_append (n ∷ a) b = ap (λ (ls : List plain.Line). n.line ∷ ls) (unnumbered_append a b)
+lines_alone-append : (a b : List text.Numbered) → lines_alone (a ++ b) ≡ lines_alone a ++ lines_alone b
+lines_alone-append [] b = refl
+lines_alone-append (n ∷ a) b = ap (λ (ls : List plain.Line). n.line ∷ ls) (lines_alone-append a b)
 
 two_before : (k l : plain.Line) (m x : Name) (P : List plain.Line → Type 0) (rows : List plain.Line) → k ≡ plain.model m → l ≡ plain.var x →
     P (plain.model m ∷ plain.var x ∷ rows) → P (k ∷ l ∷ rows)
@@ -169,21 +170,21 @@ two_before k l m x P rows first second h =
 pub not_yet_rows : (f s : text.Numbered) (behind : List text.Numbered) (m x : Name) (last n : ℕ) → f.line ≡ plain.model m → s.line ≡ plain.var x →
     RowsStopAt x behind n → IsNotYet (f ∷ s ∷ behind) last n
 not_yet_rows f s behind m x last n first second stops =
-    let up_to = unnumbered stops.before ++ stops.line.line ∷ [] in
+    let up_to = lines_alone stops.before ++ stops.line.line ∷ [] in
     let stop : ¬ BeginOneVariable (f.line ∷ s.line ∷ up_to) =
     two_before f.line s.line m x (λ ls. ¬ BeginOneVariable ls) up_to first second (no_text_behind m x up_to stops.stop) in
-    let parts : unnumbered behind ≡ up_to ++ unnumbered stops.behind =
-    ap unnumbered stops.parts ∙ unnumbered_append stops.before (stops.line ∷ stops.behind)
-    ∙ sym (append_assoc (unnumbered stops.before) (stops.line.line ∷ []) (unnumbered stops.behind)) in
+    let parts : lines_alone behind ≡ up_to ++ lines_alone stops.behind =
+    ap lines_alone stops.parts ∙ lines_alone-append stops.before (stops.line ∷ stops.behind)
+    ∙ sym (append_assoc (lines_alone stops.before) (stops.line.line ∷ []) (lines_alone stops.behind)) in
     record {
-      none = stops_all (f.line ∷ s.line ∷ up_to) (unnumbered stops.behind) _ (ap (λ (ls : List plain.Line). f.line ∷ s.line ∷ ls) parts) stop;
+      none = stops_all (f.line ∷ s.line ∷ up_to) (lines_alone stops.behind) _ (ap (λ (ls : List plain.Line). f.line ∷ s.line ∷ ls) parts) stop;
       place = inl record {
         before = f ∷ s ∷ stops.before;
         line = stops.line;
         behind = stops.behind;
         parts = ap (λ (ls : List text.Numbered). f ∷ s ∷ ls) stops.parts;
         number = stops.number;
-        begin = two_before f.line s.line m x BeginOneVariable (unnumbered stops.before) first second (rows_begin m x (unnumbered stops.before) stops.fit);
+        begin = two_before f.line s.line m x BeginOneVariable (lines_alone stops.before) first second (rows_begin m x (lines_alone stops.before) stops.fit);
         stop = stop;
       };
     }

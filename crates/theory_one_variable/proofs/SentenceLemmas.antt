@@ -1,5 +1,5 @@
 -- The claims of a one-variable text at one value of the variable, and their roots.
-use Rattle.std.proofs.Common.{◌≡◌, pos, arith, Bool, true, false, not, ◌&&◌, cond, List, [], ◌∷◌, ◌++◌, map, Option, Some, None, ⊎_elim, refl, sym, ap, ◌∙◌, subst}
+use Rattle.std.proofs.Common.{◌≡◌, pos, arith, Bool, true, false, not, ◌&&◌, cond, List, [], ◌∷◌, ◌++◌, map, Option, Some, ⊎_elim, refl, sym, ap, ◌∙◌, subst}
 use Rattle.std.specs.Prelude.{Contains, find}
 use Rattle.std.specs.Bool.{beq}
 use Rattle.std.proofs.lemmas.List.Elements.{Contains-append_left, Contains-append_right, Contains-append_cases, Contains-push, Contains-push_cases}
@@ -7,18 +7,19 @@ use Rattle.std.proofs.lemmas.Slice.Eq.{bytes_eq-Decides}
 use Rattle.theory_meaning.specs.Fraction.{Fraction, IsSame, opposite_of, whole}
 use Rattle.theory_meaning.specs.Point.{Name, Point, value_at, only_at}
 use Rattle.theory_meaning.specs.Tree as plain
-use Rattle.theory_meaning.specs.Truth.{value_of, truth_of, meets, holds}
-use Rattle.theory_method.specs.Breakpoints.{sides_in, sides_of, AreEqualAt, IsRoot, AreBreakpoints}
+use Rattle.theory_meaning.specs.Divisors.{divisors_of_expr, divisors_of_claim, divisors_of_claims}
+use Rattle.theory_meaning.specs.Truth.{value_of, truth_of, stands, meets, holds}
+use Rattle.theory_one_variable.specs.Breakpoints.{sides_in, sides_of, AreEqualAt, IsRoot, AreBreakpoints}
 use Rattle.theory_meaning.specs.Half as half
 use Rattle.theory_meaning.specs.Limits.{IsWithin, IsReduced}
 use Rattle.theory_points.specs.Parts.{IsKept}
 use Rattle.theory_points.specs.Changes.{SetsValue}
-use Rattle.theory_method.specs.Candidates.{AreCandidates}
-use Rattle.theory_method.specs.WrittenHalf.{IsFoundAt, IsHalfAt, IsWrittenHalf, first_that_meets}
-use Rattle.theory_method.specs.Affine.{IsAffine, AreAffine}
-use Rattle.theory_method.proofs.AffineLaws.{number_is_affine, symbol_is_affine, opposite_is_affine}
-use Rattle.theory_method.proofs.HalfLaws.{written_halves_are_right}
-use Rattle.theory_meaning.specs.Half.{IsClosedHalf}
+use Rattle.theory_one_variable.specs.Candidates.{AreCandidates}
+use Rattle.theory_one_variable.specs.WrittenHalf.{IsFoundAt, IsHalfAt, IsWrittenHalf, first_that_meets}
+use Rattle.theory_one_variable.specs.Affine.{IsAffine, AreAffine}
+use Rattle.theory_one_variable.proofs.AffineLaws.{number_is_affine, symbol_is_affine, opposite_is_affine}
+use Rattle.theory_one_variable.proofs.HalfLaws.{written_halves_are_right}
+use Rattle.theory_one_variable.proofs.TruthLaws.{stands_undivided}
 use Rattle.theory_one_variable.specs.declared.text.Term.{Term}
 use Rattle.theory_one_variable.specs.declared.text.Term.TheVariants.{Variable, Number}
 use Rattle.theory_one_variable.specs.declared.text.Side.{Side}
@@ -26,10 +27,11 @@ use Rattle.theory_one_variable.specs.declared.text.Atom.{Atom}
 use Rattle.theory_one_variable.specs.declared.text.Role.{Role}
 use Rattle.theory_one_variable.specs.declared.text.Role.TheVariants as role
 use Rattle.theory_one_variable.specs.declared.text.Row.{Row}
-use Rattle.theory_one_variable.specs.OneVariable.{assumptions_of}
+use Rattle.theory_meaning.specs.Question.{assumptions_of}
 use Rattle.theory_one_variable.specs.Rows.{term_expr, side_expr, atom_claim, line_as, row_lines, sentence}
 use Rattle.theory_one_variable.specs.Trial.{term_value, side_value, atom_test, assumption_test, assumptions_test}
-use Rattle.theory_one_variable.specs.Roots.{AreEqualWhere, IsRootOf, atoms_by_role, assumption_atoms, AreRootsOf}
+use Rattle.theory_one_variable.specs.Roots.{AreEqualWhere, IsRootOf}
+use Rattle.theory_one_variable.proofs.BreakpointLemmas.{atoms_by_role, assumption_atoms, AreRootsOf}
 
 -- the one name has its value
 value_here : (x : Name) (q : Fraction) → value_at (only_at x q) x ≡ q
@@ -53,6 +55,27 @@ pub atom_here : (x : Name) (q : Fraction) (a : Atom) → truth_of (atom_claim x 
 atom_here x q a = ap (λ (v : Fraction). holds a.rel v (value_of (side_expr x a.right) (only_at x q))) (side_here x q a.left)
     ∙ ap (holds a.rel (side_value a.left q)) (side_here x q a.right)
 
+-- nothing is divided in a side, nor in a comparison
+term_undivided : (x : Name) (t : Term) → divisors_of_expr (term_expr x t) ≡ []
+term_undivided x Variable = refl
+term_undivided x (Number n) = refl
+
+signed_undivided : (x : Name) (b : Bool) (t : Term) → divisors_of_expr (cond b (plain.opposite (term_expr x t)) (term_expr x t)) ≡ []
+signed_undivided x true t = term_undivided x t
+signed_undivided x false t = term_undivided x t
+
+atom_undivided : (x : Name) (a : Atom) → divisors_of_claim (atom_claim x a) ≡ []
+atom_undivided x a =
+    ap (λ (vs : List plain.Expr). vs ++ divisors_of_expr (side_expr x a.right)) (signed_undivided x a.left.negated a.left.term)
+    ∙ signed_undivided x a.right.negated a.right.term
+
+-- so it stands where it is true
+atom_stands : (x : Name) (q : Fraction) (a : Atom) → stands (atom_claim x a) (only_at x q) ≡ atom_test a q
+atom_stands x q a = stands_undivided (atom_claim x a) (only_at x q) (atom_undivided x a) ∙ atom_here x q a
+
+opposite_stands : (x : Name) (q : Fraction) (a : Atom) → stands (plain.negation (atom_claim x a)) (only_at x q) ≡ not (atom_test a q)
+opposite_stands x q a = stands_undivided (plain.negation (atom_claim x a)) (only_at x q) (atom_undivided x a) ∙ ap not (atom_here x q a)
+
 and_assoc : (a b c : Bool) → (a && (b && c)) ≡ ((a && b) && c)
 and_assoc true b c = refl
 and_assoc false b c = refl
@@ -66,12 +89,12 @@ line_here : (x : Name) (q : Fraction) (kind : Role) (label : Name) (a : Atom) (l
     meets (assumptions_of lines ++ last ∷ []) (only_at x q) ≡ test →
     meets (assumptions_of (line_as kind label (atom_claim x a) ∷ lines) ++ last ∷ []) (only_at x q) ≡ (assumption_test kind (atom_test a q) && test)
 line_here x q role.Assumption label a lines last test h =
-    ap (λ (t : Bool). t && meets (assumptions_of lines ++ last ∷ []) (only_at x q)) (atom_here x q a) ∙ ap (λ (t : Bool). atom_test a q && t) h
+    ap (λ (t : Bool). t && meets (assumptions_of lines ++ last ∷ []) (only_at x q)) (atom_stands x q a) ∙ ap (λ (t : Bool). atom_test a q && t) h
 line_here x q role.Claim label a lines last test h = h
 
-rows_here : (x : Name) (q : Fraction) (rows : List Row) (last : plain.Claim) (test : Bool) → truth_of last (only_at x q) ≡ test →
+rows_here : (x : Name) (q : Fraction) (rows : List Row) (last : plain.Claim) (test : Bool) → stands last (only_at x q) ≡ test →
     meets (assumptions_of (row_lines x rows) ++ last ∷ []) (only_at x q) ≡ (assumptions_test rows q && test)
-rows_here x q [] last test h = and_true (truth_of last (only_at x q)) ∙ h
+rows_here x q [] last test h = and_true (stands last (only_at x q)) ∙ h
 rows_here x q (row ∷ rows) last test h =
     line_here x q row.role row.label row.atom (row_lines x rows) last (assumptions_test rows q && test) (rows_here x q rows last test h)
     ∙ and_assoc (assumption_test row.role (atom_test row.atom q)) (assumptions_test rows q) test
@@ -87,9 +110,9 @@ is_false false = refl
 -- the sentence is met where each assumption is true and the claim is as wanted
 pub sentence_here : (x : Name) (q : Fraction) (rows : List Row) (a : Atom) (wanted : Bool) →
     meets (sentence x rows a wanted) (only_at x q) ≡ (assumptions_test rows q && beq (atom_test a q) wanted)
-sentence_here x q rows a true = rows_here x q rows (atom_claim x a) (beq (atom_test a q) true) (atom_here x q a ∙ is_true (atom_test a q))
+sentence_here x q rows a true = rows_here x q rows (atom_claim x a) (beq (atom_test a q) true) (atom_stands x q a ∙ is_true (atom_test a q))
 sentence_here x q rows a false = rows_here x q rows (plain.negation (atom_claim x a)) (beq (atom_test a q) false)
-    (ap not (atom_here x q a) ∙ is_false (atom_test a q))
+    (opposite_stands x q a ∙ is_false (atom_test a q))
 
 -- the two sides of a comparison
 abbrev pub sides_as : Name → Atom → plain.Expr × plain.Expr
@@ -169,6 +192,11 @@ breakpoints_here x claims atoms bs same h = record {
       h.all_roots m.0 q m.1 (root_from x m.0 q (subst (λ (s : plain.Expr × plain.Expr). IsRoot x s q) (sym m.2) root));
 }
 
+pub roots_are_breakpoints : (rows : List Row) (a : Atom) (bs : List Fraction) → AreRootsOf (assumption_atoms rows ++ a ∷ []) bs →
+    (x : Name) (wanted : Bool) → AreBreakpoints x (sentence x rows a wanted) bs
+roots_are_breakpoints rows a bs roots x wanted =
+    breakpoints_here x (sentence x rows a wanted) (assumption_atoms rows ++ a ∷ []) bs (sentence_sides x rows a wanted) roots
+
 -- a test that passes alike finds alike
 find_alike : (p r : Fraction → Bool) (qs : List Fraction) → ((q : Fraction) → p q ≡ r q) → find p qs ≡ find r qs
 find_alike p r [] h = refl
@@ -177,7 +205,7 @@ find_alike p r (q ∷ qs) h =
 
 -- the half of the first value that meets the claims is the written one
 pub half_is_written : (x : Name) (rows : List Row) (a : Atom) (wanted : Bool) (bs cs : List Fraction) (first : Option Fraction) (h : half.Half) →
-    AreRootsOf (assumption_atoms rows ++ a ∷ []) bs → AreCandidates bs cs → first ≡ find (λ q. assumptions_test rows q && beq (atom_test a q) wanted) cs →
+    AreBreakpoints x (sentence x rows a wanted) bs → AreCandidates bs cs → first ≡ find (λ q. assumptions_test rows q && beq (atom_test a q) wanted) cs →
     IsHalfAt x first h →
     IsWrittenHalf x (sentence x rows a wanted) h
 half_is_written x rows a wanted bs cs first h roots tried found is =
@@ -186,20 +214,21 @@ half_is_written x rows a wanted bs cs first h roots tried found is =
     (λ q. sym (sentence_here x q rows a wanted)) in (
       bs,
       cs,
-      breakpoints_here x (sentence x rows a wanted) (assumption_atoms rows ++ a ∷ []) bs (sentence_sides x rows a wanted) roots,
+      roots,
       tried,
       subst
           (λ (o : Option Fraction). IsHalfAt x o h) written is,
     )
 
 -- a point that was given the value in lowest terms
-pub found_is : (x name : Name) (q v : Fraction) (old p : Point) → name ≡ x → SetsValue old p name v → IsKept v → IsSame v q → IsFoundAt x q p
-found_is x name q v old p same sets kept equal =
+pub found_is : (x name : Name) (q v : Fraction) (old p : Point) → old ≡ [] → name ≡ x → SetsValue old p name v → IsKept v → IsSame v q → IsFoundAt x q p
+found_is x name q v old p empty same sets kept equal =
     let value : value_at p x ≡ v = subst (λ (n : Name). value_at p n ≡ v) same sets.changed in
     record {
       within = subst IsWithin (sym value) kept.within;
       reduced = subst IsReduced (sym value) kept.reduced;
       equal = subst (λ (r : Fraction). IsSame r q) (sym value) equal;
+      others = λ y apart. sets.others y (λ e. apart (e ∙ same)) ∙ ap (λ (r : Point). value_at r y) empty;
     }
 
 -- each side is affine
@@ -211,8 +240,9 @@ signed_is_affine : (x : Name) (b : Bool) (t : Term) → IsAffine x (cond b (plai
 signed_is_affine x true t = opposite_is_affine x (term_expr x t) (term_is_affine x t)
 signed_is_affine x false t = term_is_affine x t
 
-pub sentence_is_affine : (x : Name) (rows : List Row) (a : Atom) (wanted : Bool) → AreAffine x (sentence x rows a wanted)
-sentence_is_affine x rows a wanted sides i =
+sides_are_affine : (x : Name) (rows : List Row) (a : Atom) (wanted : Bool) (sides : plain.Expr × plain.Expr) →
+    Contains (sides_of (sentence x rows a wanted)) sides → IsAffine x sides.0 × IsAffine x sides.1
+sides_are_affine x rows a wanted sides i =
     let m = mapped x (assumption_atoms rows ++ a ∷ []) sides
     (subst (λ (ss : List (plain.Expr × plain.Expr)). Contains ss sides) (sentence_sides x rows a wanted) i) in
     let b : Atom = m.0 in (
@@ -220,14 +250,27 @@ sentence_is_affine x rows a wanted sides i =
       subst (λ (s : plain.Expr × plain.Expr). IsAffine x s.1) m.2 (signed_is_affine x b.right.negated b.right.term),
     )
 
--- a written half is right, and isn't left open
+-- nothing is divided in the sentence
+line_undivided : (x : Name) (kind : Role) (label : Name) (a : Atom) (lines : List plain.Line) (last : plain.Claim) →
+    divisors_of_claims (plain.claims_from (assumptions_of lines ++ last ∷ [])) ≡ [] →
+    divisors_of_claims (plain.claims_from (assumptions_of (line_as kind label (atom_claim x a) ∷ lines) ++ last ∷ [])) ≡ []
+line_undivided x role.Assumption label a lines last h =
+    ap (λ (vs : List plain.Expr). vs ++ divisors_of_claims (plain.claims_from (assumptions_of lines ++ last ∷ []))) (atom_undivided x a) ∙ h
+line_undivided x role.Claim label a lines last h = h
+
+rows_undivided : (x : Name) (rows : List Row) (last : plain.Claim) → divisors_of_claim last ≡ [] →
+    divisors_of_claims (plain.claims_from (assumptions_of (row_lines x rows) ++ last ∷ [])) ≡ []
+rows_undivided x [] last h = ap (λ (vs : List plain.Expr). vs ++ []) h
+rows_undivided x (row ∷ rows) last h = line_undivided x row.role row.label row.atom (row_lines x rows) last (rows_undivided x rows last h)
+
+sentence_undivided : (x : Name) (rows : List Row) (a : Atom) (wanted : Bool) → divisors_of_claims (plain.claims_from (sentence x rows a wanted)) ≡ []
+sentence_undivided x rows a true = rows_undivided x rows (atom_claim x a) (atom_undivided x a)
+sentence_undivided x rows a false = rows_undivided x rows (plain.negation (atom_claim x a)) (atom_undivided x a)
+
+pub sentence_is_affine : (x : Name) (rows : List Row) (a : Atom) (wanted : Bool) → AreAffine x (sentence x rows a wanted)
+sentence_is_affine x rows a wanted = record { sides = sides_are_affine x rows a wanted; undivided = sentence_undivided x rows a wanted }
+
+-- a written half is right
 pub half_is_right : (x : Name) (rows : List Row) (a : Atom) (wanted : Bool) (h : half.Half) → IsWrittenHalf x (sentence x rows a wanted) h →
     half.IsRightHalf (sentence x rows a wanted) h
 half_is_right x rows a wanted h written = written_halves_are_right x (sentence x rows a wanted) h (sentence_is_affine x rows a wanted) written
-
-closed_at : (x : Name) (o : Option Fraction) (h : half.Half) → IsHalfAt x o h → IsClosedHalf h
-closed_at x None h is = subst IsClosedHalf (sym is) tt
-closed_at x (Some q) h is = ⊎_elim (λ f. subst IsClosedHalf (sym f.2) tt) (λ w. subst IsClosedHalf (sym w.1) tt) is
-
-pub half_is_closed : (x : Name) (claims : List plain.Claim) (h : half.Half) → IsWrittenHalf x claims h → IsClosedHalf h
-half_is_closed x claims h (bs, cs, breaks, tried, is) = closed_at x (first_that_meets x claims cs) h is

@@ -2,8 +2,8 @@
 use Rattle.std.proofs.Common.{◌≡◌, ℕ, suc, ◌+◌, ◌-◌, ◌<◌, ◌≤◌, ℤ, List, [], ◌∷◌, ◌++◌, length, get_or, drop, refl, sym, ap, ◌∙◌, subst, arith, append_assoc, add-one, drop-cons, length-drop}
 use Rattle.std.proofs.lemmas.List.{append-nil}
 use Rattle.theory_meaning.specs.Fraction.{Fraction, IsBelow, whole}
-use Rattle.theory_method.specs.Between.{IsSimplestBetween, IsWholeBelow, IsWholeAbove}
-use Rattle.theory_method.specs.Candidates.{IsAscending, AreMiddles, last_of}
+use Rattle.theory_meaning.specs.Between.{IsSimplestBetween, IsWholeBelow, IsWholeAbove}
+use Rattle.theory_one_variable.specs.Candidates.{IsAscending, AreMiddles, last_of}
 use Rattle.theory_one_variable.specs.Tried.{AddsMiddles, AddsEnds}
 
 -- the middles of the first neighbours are added, and those of the rest are still to come

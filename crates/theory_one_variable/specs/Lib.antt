@@ -1,5 +1,9 @@
 pub use Rattle.theory_meaning.specs.Tree
-pub use Rattle.theory_method.specs.WrittenHalf
+pub mod Candidates
+pub mod Breakpoints
+pub mod WrittenHalf
+pub mod Affine
+pub mod RightHalf
 pub mod OneVariable
 pub mod Rows
 pub mod Trial
@@ -7,3 +11,4 @@ pub mod Roots
 pub mod Tried
 pub mod ReadLines
 pub mod RowRules
+pub mod Asking

@@ -2,7 +2,7 @@
 use Rattle.std.specs.Prelude.{◌≡◌, ◌≤◌, List, [], ◌∷◌, length, None, Contains}
 use Rattle.theory_meaning.specs.Point.{Name}
 pub use Rattle.theory_meaning.specs.Question.{example_sentence, counter_sentence}
-use Rattle.theory_meaning.specs.Tree.{Expr, number, symbol, opposite, Claim, atom, Line, model, var, assume, claim}
+use Rattle.theory_meaning.specs.Tree.{Expr, number, symbol, opposite, atom, Line, model, var, assume, claim}
 
 -- the variable or a number
 abbrev pub IsTermOver : Name → Expr → Type 0
@@ -44,15 +44,3 @@ pub record IsOneVariable (name x : Name) (rows lines : List Line) : Type 0 where
   pub sides : AreRowsOver x rows
   pub labels : AreDistinct (x ∷ labels_of rows)
   pub size : length lines ≤ 200
-
--- the assumptions, in the order of the text
-abbrev pub assumptions_of : List Line → List Claim
-assumptions_of [] = []
-assumptions_of (assume label c ∷ lines) = c ∷ assumptions_of lines
-assumptions_of (_ ∷ lines) = assumptions_of lines
-
--- the claims with their labels, in the order of the text
-abbrev pub claims_of : List Line → List (Name × Claim)
-claims_of [] = []
-claims_of (claim label shift c ∷ lines) = (label, c) ∷ claims_of lines
-claims_of (_ ∷ lines) = claims_of lines

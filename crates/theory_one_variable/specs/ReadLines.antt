@@ -1,5 +1,6 @@
 -- Read lines of a text: where they are a one-variable text, and where they stop beginning one.
-use Rattle.std.specs.Prelude.{◌≡◌, ◌⊎◌, ℕ, List, [], ◌∷◌, ◌++◌, map, Result, Ok, Err}
+use Rattle.std.specs.Prelude.{◌≡◌, ◌⊎◌, ℕ, List, [], ◌∷◌, ◌++◌, Result, Ok, Err}
+use Rattle.theory_meaning.specs.Edit.{lines_alone}
 use Rattle.theory_meaning.specs.Point.{Name}
 use Rattle.theory_meaning.specs.Text.{Numbered}
 use Rattle.theory_meaning.specs.Tree.{Line, model, var}
@@ -17,10 +18,6 @@ AreOneVariable lines = (name : Name) × (x : Name) × (rows : List Line) × IsOn
 abbrev pub BeginOneVariable : List Line → Type 0
 BeginOneVariable lines = (more : List Line) × AreOneVariable (lines ++ more)
 
--- the lines without their numbers
-abbrev pub unnumbered : List Numbered → List Line
-unnumbered lines = map (λ n. n.line) lines
-
 -- the text stands for these lines, and they are a one-variable text
 pub record IsTextOf (t : Text) (lines : List Line) : Type 0 where
   pub stands : lines ≡ model t.model ∷ var t.variable ∷ row_lines t.variable t.rows.items
@@ -33,13 +30,13 @@ pub record StopAt (lines : List Numbered) (n : ℕ) : Type 0 where
   pub behind : List Numbered
   pub parts : lines ≡ before ++ line ∷ behind
   pub number : n ≡ line.at
-  pub begin : BeginOneVariable (unnumbered before)
-  pub stop : ¬ BeginOneVariable (unnumbered before ++ line.line ∷ [])
+  pub begin : BeginOneVariable (lines_alone before)
+  pub stop : ¬ BeginOneVariable (lines_alone before ++ line.line ∷ [])
 
 -- the lines are no one-variable text, and n is where they stop, or the last line's number where they only end too early
 pub record IsNotYet (lines : List Numbered) (last n : ℕ) : Type 0 where
-  pub none : ¬ AreOneVariable (unnumbered lines)
-  pub place : StopAt lines n ⊎ (BeginOneVariable (unnumbered lines) × (n ≡ last))
+  pub none : ¬ AreOneVariable (lines_alone lines)
+  pub place : StopAt lines n ⊎ (BeginOneVariable (lines_alone lines) × (n ≡ last))
 
 -- what is so of the number of NotYet
 abbrev pub OfNumber : (ℕ → Type 0) → NotOneVariable → Type 0

@@ -1,11 +1,7 @@
 -- The roots of the comparisons of a one-variable text.
-use Rattle.std.specs.Prelude.{◌≡◌, ◌≤◌, pos, Bool, List, [], ◌∷◌, length, Option, Some, None, Contains, insert, if◌then◌else◌}
+use Rattle.std.specs.Prelude.{◌≡◌, ◌≤◌, pos, Bool, List, [], ◌∷◌, length, Option, Some, None, insert, if◌then◌else◌}
 use Rattle.theory_meaning.specs.Fraction.{Fraction, whole, IsSame, opposite_of, same, below}
-use Rattle.theory_method.specs.Candidates.{IsAscending}
 use Rattle.theory_one_variable.specs.declared.text.Atom.{Atom}
-use Rattle.theory_one_variable.specs.declared.text.Role.{Role}
-use Rattle.theory_one_variable.specs.declared.text.Role.TheVariants as role
-use Rattle.theory_one_variable.specs.declared.text.Row.{Row}
 use Rattle.theory_one_variable.specs.declared.roots.Place.{Place}
 use Rattle.theory_one_variable.specs.declared.roots.Place.TheVariants.{There, Before}
 use Rattle.theory_one_variable.specs.declared.text.Term.{Term}
@@ -46,22 +42,6 @@ with_root (Some r) bs = inserted r bs
 abbrev pub IsPlace : Fraction → List Fraction → Place → Type 0
 IsPlace r bs There = inserted r bs ≡ bs
 IsPlace r bs (Before k) = (k ≤ length bs) × (inserted r bs ≡ insert bs k r)
-
--- a comparison counts where its row is an assumption
-abbrev pub atoms_by_role : Role → Atom → List Atom → List Atom
-atoms_by_role role.Assumption a atoms = a ∷ atoms
-atoms_by_role role.Claim a atoms = atoms
-
--- the comparisons of the assumptions
-abbrev pub assumption_atoms : List Row → List Atom
-assumption_atoms [] = []
-assumption_atoms (row ∷ rows) = atoms_by_role row.role row.atom (assumption_atoms rows)
-
--- the roots of these comparisons, upwards and each once
-pub record AreRootsOf (atoms : List Atom) (bs : List Fraction) : Type 0 where
-  pub ascending : IsAscending bs
-  pub only_roots : (b : Fraction) → Contains bs b → (a : Atom) × Contains atoms a × IsRootOf a b
-  pub all_roots : (a : Atom) (q : Fraction) → Contains atoms a → IsRootOf a q → (b : Fraction) × Contains bs b × IsSame b q
 
 -- the root of a comparison is put in its place, where there is one
 abbrev pub AddsRoot : Atom → List Fraction → List Fraction → Type 0

@@ -5,7 +5,7 @@ use Rattle.theory_meaning.specs.Text.{Numbered}
 use Rattle.theory_meaning.specs.Tree.{Claim, atom, Line}
 use Rattle.theory_one_variable.specs.declared.text.Row.{Row}
 use Rattle.theory_one_variable.specs.OneVariable.{IsSideOver, AreRowsOver, labels_of, AreDistinct}
-use Rattle.theory_one_variable.specs.ReadLines.{unnumbered}
+use Rattle.theory_meaning.specs.Edit.{lines_alone}
 use Rattle.theory_one_variable.specs.Rows.{row_lines}
 
 -- a comparison of two sides
@@ -44,5 +44,5 @@ pub record RowsStopAt (x : Name) (lines : List Numbered) (n : ℕ) : Type 0 wher
   pub behind : List Numbered
   pub parts : lines ≡ before ++ line ∷ behind
   pub number : n ≡ line.at
-  pub fit : AreRows x (unnumbered before)
-  pub stop : ¬ AreRows x (unnumbered before ++ line.line ∷ [])
+  pub fit : AreRows x (lines_alone before)
+  pub stop : ¬ AreRows x (lines_alone before ++ line.line ∷ [])

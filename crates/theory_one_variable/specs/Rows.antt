@@ -9,7 +9,7 @@ use Rattle.theory_one_variable.specs.declared.text.Atom.{Atom}
 use Rattle.theory_one_variable.specs.declared.text.Role.{Role}
 use Rattle.theory_one_variable.specs.declared.text.Role.TheVariants as role
 use Rattle.theory_one_variable.specs.declared.text.Row.{Row}
-use Rattle.theory_one_variable.specs.OneVariable.{assumptions_of, example_sentence, counter_sentence}
+use Rattle.theory_meaning.specs.Question.{assumptions_of, example_sentence, counter_sentence}
 
 -- a term over the variable x
 abbrev pub term_expr : Name → Term → plain.Expr

@@ -1,7 +1,7 @@
 -- The values that are tried, part by part.
 use Rattle.std.specs.Prelude.{◌≡◌, List, ◌++◌}
 use Rattle.theory_meaning.specs.Fraction.{Fraction}
-use Rattle.theory_method.specs.Candidates.{AreMiddles, AreEnds}
+use Rattle.theory_one_variable.specs.Candidates.{AreMiddles, AreEnds}
 
 -- the middles of neighbours are added at the end
 abbrev pub AddsMiddles : List Fraction → List Fraction → List Fraction → Type 0

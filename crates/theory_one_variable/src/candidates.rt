@@ -1,7 +1,7 @@
 ghost use Rattle.std.specs.Prelude.{◌≡◌, List, ◌++◌, IfOk, OnOk};
 ghost use Rattle.theory_meaning.specs.Fraction.{Fraction, IsBelow};
-ghost use Rattle.theory_method.specs.Between.{IsSimplestBetween};
-ghost use Rattle.theory_method.specs.Candidates.{IsAscending, AreCandidates, AreMiddles, AreEnds, small_wholes};
+ghost use Rattle.theory_meaning.specs.Between.{IsSimplestBetween};
+ghost use Rattle.theory_one_variable.specs.Candidates.{IsAscending, AreCandidates, AreMiddles, AreEnds, small_wholes};
 ghost use Rattle.theory_one_variable.specs.Tried.{AddsMiddles, AddsEnds};
 
 use crate::ratio::Ratio;

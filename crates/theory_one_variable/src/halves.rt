@@ -1,7 +1,7 @@
 ghost use Rattle.std.specs.Prelude.{◌≡◌, ◌&&◌, IfOk, find};
 ghost use Rattle.std.specs.Bool.{beq};
-ghost use Rattle.theory_meaning.specs.Half.{IsRightHalf, IsClosedHalf};
-ghost use Rattle.theory_method.specs.WrittenHalf.{IsHalfAt, IsWrittenHalf};
+ghost use Rattle.theory_meaning.specs.Half.{IsRightHalf};
+ghost use Rattle.theory_one_variable.specs.WrittenHalf.{IsHalfAt, IsWrittenHalf};
 ghost use Rattle.theory_verdict.specs.Plain.{half_of};
 ghost use Rattle.theory_one_variable.specs.Trial.{atom_test, assumptions_test};
 ghost use Rattle.theory_one_variable.specs.Rows.{sentence};
@@ -21,7 +21,6 @@ pub fn half(alloc: Global, text: &Text, claim: &Atom, wanted: bool) -> Result<Ha
         (sentence text.now.variable text.now.rows.items claim.now wanted) (half_of h)) }
     ensures right { IfOk result (λ h. IsRightHalf
         (sentence text.now.variable text.now.rows.items claim.now wanted) (half_of h)) }
-    ensures closed { IfOk result (λ h. IsClosedHalf (half_of h)) }
 {
     let roots = breakpoints(alloc, &text.rows, claim)?;
     let tried = candidates(alloc, &roots)?;

@@ -3,7 +3,8 @@ ghost use Rattle.std.specs.List.{list_any};
 ghost use Rattle.std.specs.Str.{bytes_eq};
 ghost use Rattle.theory_meaning.specs.Point.{Name};
 ghost use Rattle.theory_one_variable.specs.OneVariable.{IsTermOver, IsSideOver, IsRowOver};
-ghost use Rattle.theory_one_variable.specs.ReadLines.{unnumbered, IsTextOf, IsNotYet, IfNotYet};
+ghost use Rattle.theory_meaning.specs.Edit.{lines_alone};
+ghost use Rattle.theory_one_variable.specs.ReadLines.{IsTextOf, IsNotYet, IfNotYet};
 ghost use Rattle.theory_one_variable.specs.RowRules.{IsAtomOver, StandFor, AddsLine, BreaksRows, RowsStopAt, row_labels};
 ghost use Rattle.theory_one_variable.specs.Rows.{term_expr, side_expr, atom_claim, line_as, row_lines};
 ghost use Rattle.theory_syntax.specs.Plain.{expr_of, claim_of, line_of, numbered_of, lines_of};
@@ -46,7 +47,7 @@ struct Labelled<'a> {
 
 /// The one-variable text that the lines are; `last` is the number of the text's last line.
 pub fn one_variable(alloc: Global, lines: &[Numbered], last: u32) -> Result<Text, NotOneVariable>
-    ensures ok { IfOk result (λ text. IsTextOf text (unnumbered (lines_of lines.now))) }
+    ensures ok { IfOk result (λ text. IsTextOf text (lines_alone (lines_of lines.now))) }
     ensures refused { IfNotYet result (IsNotYet (lines_of lines.now) last) }
 {
     match lines {
@@ -66,7 +67,7 @@ fn text_of(
     behind: &[Numbered],
 ) -> Result<Text, NotOneVariable>
     ensures ok { IfOk result (λ text. IsTextOf text
-        (unnumbered (numbered_of first.now ∷ numbered_of second.now ∷ lines_of behind.now))) }
+        (lines_alone (numbered_of first.now ∷ numbered_of second.now ∷ lines_of behind.now))) }
     ensures refused { (last : ℕ) → IfNotYet result (IsNotYet
         (numbered_of first.now ∷ numbered_of second.now ∷ lines_of behind.now) last) }
 {
@@ -91,7 +92,7 @@ fn text_of(
 
 fn read_rows(alloc: Global, variable: &Name, lines: &[Numbered]) -> Result<Vec<Row>, NotOneVariable>
     ensures ok { IfOk result
-        (λ rows. StandFor variable.now rows.items (unnumbered (lines_of lines.now))) }
+        (λ rows. StandFor variable.now rows.items (lines_alone (lines_of lines.now))) }
     ensures refused { IfNotYet result (RowsStopAt variable.now (lines_of lines.now)) }
 {
     let mut rows = Vec::new(alloc);

@@ -1,6 +1,9 @@
-ghost use Rattle.std.specs.Prelude.{◌≡◌, [], ◌∷◌, ◌++◌, IfOk, OnOk, if◌then◌else◌};
+ghost use Rattle.std.specs.Prelude.{◌≡◌, Bool, IfOk, OnOk, if◌then◌else◌};
 ghost use Rattle.theory_meaning.specs.Fraction.{opposite_of};
-ghost use Rattle.theory_one_variable.specs.Roots.{HasRoot, root_of, inserted, IsPlace, assumption_atoms, AreRootsOf, AddsRoot};
+ghost use Rattle.theory_meaning.specs.Point as plain;
+ghost use Rattle.theory_one_variable.specs.Breakpoints.{AreBreakpoints};
+ghost use Rattle.theory_one_variable.specs.Roots.{HasRoot, root_of, inserted, IsPlace, AddsRoot};
+ghost use Rattle.theory_one_variable.specs.Rows.{sentence};
 ghost use Rattle.theory_one_variable.specs.declared.text.Term.TheVariants.{Variable, Number};
 
 use crate::text::{Atom, Role, Row, Term};
@@ -56,10 +59,10 @@ fn with_sign(negated: bool, number: &Frac) -> Frac
     if negated { number.neg() } else { *number }
 }
 
-/// The roots of the assumptions and of a claim, upwards and each once.
+/// The breakpoints of the assumptions with a claim or with its opposite, over any variable.
 pub fn breakpoints(alloc: Global, rows: &[Row], claim: &Atom) -> Result<Vec<Frac>, NoMemory>
-    ensures { IfOk result (λ roots.
-        AreRootsOf (assumption_atoms rows.now ++ claim.now ∷ []) roots.items) }
+    ensures { IfOk result (λ roots. (x : plain.Name) (wanted : Bool) →
+        AreBreakpoints x (sentence x rows.now claim.now wanted) roots.items) }
 {
     let mut roots = Vec::new(alloc);
     for row in rows {

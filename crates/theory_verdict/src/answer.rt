@@ -3,17 +3,6 @@ use theory_meaning::Verdict;
 use theory_points::{Name, Names};
 use theory_syntax::Claim;
 
-/// An order in which symbols are eliminated.
-#[derive(Clone, Copy, Debug, PartialEq, Eq)]
-pub enum Kind {
-    /// As the symbols are listed.
-    Listed,
-    /// The symbol of the fewest atoms first.
-    Rare,
-    /// A symbol with a constant coefficient in an equation first.
-    Unit,
-}
-
 /// The condition on chosen names under which a claim holds.
 #[derive(Drop)]
 pub enum Region {

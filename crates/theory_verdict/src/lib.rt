@@ -9,9 +9,6 @@
 mod answer;
 mod half;
 
-pub use answer::{Answer, Kind, Region};
+pub use answer::{Answer, Region};
 pub use half::{Cause, Half, StuckOn, StuckOns, verdict_of};
-pub use theory_meaning::Verdict;
-
-#[cfg(test)]
-mod tests;
+pub use theory_meaning::{Kind, Verdict};

@@ -1,7 +1,7 @@
 use Rattle.std.proofs.Common.{◌≡◌, List, ℕ, [], ◌∷◌, string_bytes, sym, ap, ◌∙◌}
 use Rattle.std.specs.Prelude.{codes}
 use Rattle.std.proofs.lemmas.Slice.Eq.{bytes_eq-Decides}
-use Rattle.theory_cli.proofs.RunLemmas.{two_words}
+use Rattle.theory_cli.proofs.CheckLemmas.{two_words}
 use Rattle.theory_cli.proofs.running.file_of.Goals as goal
 
 pub returns-then-eq : goal.returns-then-eq

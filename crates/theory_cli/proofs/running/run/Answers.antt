@@ -1,7 +1,9 @@
-use Rattle.std.proofs.Common.{string_bytes}
-use Rattle.theory_cli.proofs.RunLemmas.{reported_run}
+use Rattle.std.proofs.Common.{string_bytes, refl}
+use Rattle.theory_cli.proofs.CheckLemmas.{reported_run, finished_run}
 use Rattle.theory_cli.proofs.running.run.Goals as goal
 
+pub returns-in-Ok : goal.returns-in-Ok
+returns-in-Ok g c = finished_run (string_bytes c.args.file.now) _ _ _ refl c.in-Ok.ensures
+
 pub returns-in-Err : goal.returns-in-Err
-returns-in-Err g c = λ words command.
-    reported_run words _ _ _ (string_bytes c.args.file.now) c.in-Err.stop _ _ _ _ _ _ c.in-Err.ensures c.report.ensures command
+returns-in-Err g c = reported_run (string_bytes c.args.file.now) _ _ _ _ c.in-Err.stop c.in-Err.ensures c.report.ensures

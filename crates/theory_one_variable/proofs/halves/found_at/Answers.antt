@@ -7,6 +7,6 @@ returns-in_ok-set-in-Some c =
     inl (
       c.set.new.self,
       found_is c.args.variable.now c.in_ok-copy-in-Some.field-0 c.args.at.now c.in-Some.value c.new-point.result c.set.new.self
-          c.in_ok-copy-in-Some.ensures c.in_ok-set-in-Some.ensures.ok c.in-Some.ensures.kept c.in-Some.ensures.value,
+          c.new-point.ensures c.in_ok-copy-in-Some.ensures c.in_ok-set-in-Some.ensures.ok c.in-Some.ensures.kept c.in-Some.ensures.value,
       refl,
     )

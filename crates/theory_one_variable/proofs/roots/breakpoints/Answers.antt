@@ -1,4 +1,5 @@
 use Rattle.theory_one_variable.proofs.BreakpointLemmas.{next_assumption, next_claim, last_root}
+use Rattle.theory_one_variable.proofs.SentenceLemmas.{roots_are_breakpoints}
 use Rattle.theory_one_variable.proofs.roots.breakpoints.Goals as goal
 use Rattle.theory_one_variable.proofs.roots.breakpoints.Goals.{in-Assumption+in_ok-add_root-in-Assumption, in-Claim}
 
@@ -13,4 +14,5 @@ loop-row-preserved c =
     ]
 
 pub returns : goal.returns
-returns c = last_root c.args.rows.now c.loop-row.row-index c.args.claim.now _ _ c.loop-row-test.false c.in_ok-add_root.ensures c.loop-row.invariant
+returns c = roots_are_breakpoints c.args.rows.now c.args.claim.now _
+    (last_root c.args.rows.now c.loop-row.row-index c.args.claim.now _ _ c.loop-row-test.false c.in_ok-add_root.ensures c.loop-row.invariant)

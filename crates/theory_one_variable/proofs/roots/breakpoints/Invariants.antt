@@ -1,6 +1,6 @@
 use Rattle.std.proofs.Common.{◌≡◌, List, ◌++◌, drop}
 use Rattle.theory_one_variable.specs.declared.text.Atom.{Atom}
-use Rattle.theory_one_variable.specs.Roots.{AreRootsOf, assumption_atoms}
+use Rattle.theory_one_variable.proofs.BreakpointLemmas.{assumption_atoms, AreRootsOf}
 use Rattle.theory_one_variable.proofs.roots.breakpoints.Given as goal
 
 abbrev pub invariant-loop-row : goal.invariant-loop-row

@@ -4,6 +4,6 @@ use Rattle.theory_edge.specs.declared.files.EndFault.{EndFault}
 use Rattle.theory_edge.specs.declared.files.EndFault.TheVariants.{Failed, NoMemory}
 
 -- what is told by each fault of an end
-abbrev pub told_by : EndFault → List ℕ
-told_by Failed = codes "the outside failed"
-told_by NoMemory = codes "no memory"
+abbrev pub message_of : EndFault → List ℕ
+message_of Failed = codes "the outside failed"
+message_of NoMemory = codes "no memory"
