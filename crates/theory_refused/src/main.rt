@@ -1,0 +1,27 @@
+//! Runs the top call on a file whose text is refused, and ends with its status.
+#![tactic(auto)]
+
+use std::alloc::{AllocError, Global};
+use std::process::ExitCode;
+use theory_cli::theory;
+use theory_edge::{RealFiles, RealSink};
+
+fn main(rt: HostRuntime) -> ExitCode {
+    let mut files = RealFiles::new(&rt);
+    let mut out = RealSink::output(rt.stdout());
+    let mut err = RealSink::errors(rt.stderr());
+    match words(rt.alloc()) {
+        Ok(words) => {
+            let outcome = theory(rt.alloc(), &words, &mut files, &mut out, &mut err);
+            ExitCode::from(outcome.status.number())
+        }
+        Err(_) => ExitCode::FAILURE,
+    }
+}
+
+fn words(alloc: Global) -> Result<Vec<String>, AllocError> {
+    let mut words = Vec::new(alloc);
+    words.push(String::from_str(alloc, "check")?)?;
+    words.push(String::from_str(alloc, "refused.theory")?)?;
+    Ok(words)
+}

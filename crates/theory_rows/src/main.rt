@@ -1,0 +1,52 @@
+//! Reads tables of expected results, a file for each word, and prints each row that differs, and
+//! last how many rows there were.
+#![tactic(auto)]
+
+mod answers;
+mod branching;
+mod calls;
+mod changing;
+mod conditions;
+mod fault;
+mod formula_texts;
+mod formulas;
+mod grid;
+mod models;
+mod numbers;
+mod pieces;
+mod polynomials;
+mod quotients;
+mod reading;
+mod rows;
+mod spelling;
+mod tables;
+mod telling;
+mod tokens;
+mod writing;
+
+use std::process::ExitCode;
+use std::{env, io};
+use tables::{Tally, run_tables};
+use theory_edge::{RealFiles, RealSink};
+
+fn main(rt: HostRuntime) -> ExitCode {
+    let mut files = RealFiles::new(&rt);
+    let mut out = RealSink::output(rt.stdout());
+    let told = match words(&rt) {
+        Ok(names) => run_tables(rt.alloc(), &names, &mut files, &mut out),
+        Err(_) => Err(fault::RowFault::Memory),
+    };
+    match told {
+        Ok(Tally { wrong: 0, .. }) => ExitCode::SUCCESS,
+        _ => ExitCode::FAILURE,
+    }
+}
+
+/// The words behind the program's name.
+fn words(rt: &HostRuntime) -> io::Result<Vec<String>> {
+    let mut words = Vec::new(rt.alloc());
+    for word in env::args(rt)?.skip(1) {
+        words.push(word)?;
+    }
+    Ok(words)
+}
