@@ -12,7 +12,8 @@ use Rattle.std.proofs.lemmas.Slice.Eq.{bytes_eq-Decides}
 use Rattle.theory_polynomial.specs.Polynomial.{Monomial, monomial, coefficient_at, AreSame, PrecedesFirst, IsPolynomial, IsWithinLimits, IsContent, IsPrimitiveOf, DividesAll, scaled, height_of, greatest_of, greatest_exponent_of}
 use Rattle.theory_polynomial.proofs.CoefficientLaws.{same_itself}
 use Rattle.theory_polynomial.proofs.FixedOrder.{coefficient_before, coefficient_first, none_of_zero}
-use Rattle.theory_poly.specs.Kept.{IsKept, EachDivided, IsGreatestDivisor, IsPrimitiveForm}
+use Rattle.theory_meaning.specs.Limits.{bound}
+use Rattle.theory_poly.specs.Kept.{IsKept, EachDivided, IsGreatestDivisor, IsGreatestWith, IsPrimitiveForm}
 
 -- no coefficient is 0
 pub nonzero_at : (ts : List Monomial) (i : ℕ) (d : Monomial) → i < length ts → IsPolynomial ts → 0 < unsigned_abs (get_or ts i d).coefficient
@@ -106,6 +107,26 @@ content_of_some ts g h k some = record {
       let positive : 0 < g = omega arith in
       let small = le_of_dvd positive past in omega (arith, small));
 }
+
+-- the first coefficient isn't 0
+pub first_is_some : (ts : List Monomial) (d : Monomial) → ts ≢ [] → IsPolynomial ts → 0 < unsigned_abs (get_or ts 0 d).coefficient
+first_is_some [] d some h = absurd (some refl)
+first_is_some (t ∷ ts) d some h = nonzero_at (t ∷ ts) 0 d (omega arith) h
+
+-- the greatest divisor of the first coefficient and all others is the content
+pub content_with_first : (ts : List Monomial) (d : Monomial) (g : ℕ) → ts ≢ [] → IsKept ts → 0 < g
+    → IsGreatestWith (unsigned_abs (get_or ts 0 d).coefficient) ts g → IsContent ts g
+content_with_first [] d g some h positive k = absurd (some refl)
+content_with_first (t ∷ ts) d g some h positive k =
+    content_of_some (t ∷ ts) g h.ordered (record { divides = k.divides; greatest = λ e all. k.greatest e all.0 all }) (λ none. omega (arith, positive, none))
+
+-- it is within the bound
+pub first_is_small : (ts : List Monomial) (d : Monomial) (g : ℕ) → ts ≢ [] → IsKept ts
+    → IsGreatestWith (unsigned_abs (get_or ts 0 d).coefficient) ts g → g ≤ bound
+first_is_small [] d g some h k = absurd (some refl)
+first_is_small (t ∷ ts) d g some h k =
+    let least = le_of_dvd (nonzero_at (t ∷ ts) 0 d (omega arith) h.ordered) k.first in
+    let most = h.within.coefficients in omega (arith, least, most)
 
 -- an exact quotient, with its sign
 times_opposite : (a b : ℕ) → pos a *ℤ neg_ℤ (pos b) ≡ neg_ℤ (pos (a * b))

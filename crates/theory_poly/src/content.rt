@@ -1,8 +1,9 @@
-ghost use Rattle.std.specs.Prelude.{◌≡◌, ◌≢◌, ℕ, ◌^◌, ◌<◌, ◌≤◌, ℤ, pos, ◌*ℤ◌, unsigned_abs, IfOk};
+ghost use Rattle.std.specs.Prelude.{◌≡◌, ◌≢◌, ℕ, ◌^◌, ◌<◌, ◌≤◌, [], ℤ, pos, ◌*ℤ◌, unsigned_abs, IfOk};
 ghost use Rattle.std.specs.Int.{IsGcd};
 ghost use Prim.Native.Nat.{◌∣◌};
 ghost use Rattle.theory_polynomial.specs.Polynomial.{IsPolynomial, IsContent, scaled, height_of};
-ghost use Rattle.theory_poly.specs.Kept.{EachDivided, IsGreatestDivisor, IsGreatestWith, IsPrimitiveForm};
+ghost use Rattle.theory_meaning.specs.Limits.{bound};
+ghost use Rattle.theory_poly.specs.Kept.{IsKept, EachDivided, IsGreatestDivisor, IsGreatestWith, IsPrimitiveForm};
 
 use crate::term::{Term, WideTerm};
 use std::alloc::Global;
@@ -64,6 +65,17 @@ pub fn divisor_of_narrow(start: u128, terms: &[Term]) -> u128
         common = common_divisor(common, t.coefficient.unsigned_abs() as u128);
     }
     common
+}
+
+/// The content of some terms within the limits.
+pub fn content_of_narrow(terms: &[Term]) -> u64
+    requires some { terms.now ≢ [] }
+    requires kept { IsKept terms.now }
+    ensures value { IsContent terms.now result }
+    ensures small { result ≤ bound }
+{
+    let first = terms[0].coefficient.unsigned_abs();
+    divisor_of_narrow(first as u128, terms) as u64
 }
 
 /// The greatest common divisor by Euclid's algorithm.

@@ -1,8 +1,8 @@
 //! Polynomials over whole numbers within stated limits, and the same over a whole number.
 //!
 //! A contract sees a `Poly` as the list of its terms in the fixed order, and a `RatPoly` as such a
-//! list over a positive number. A `Poly` carries its hash. Each result is the exact one; `Wide` comes where that passes a
-//! limit. Read `Poly::add` first.
+//! list over a positive number. A `Poly` carries its hash. Each result is the exact one; `Wide`
+//! comes where that passes a limit. Read `Poly::add` first.
 #![tactic(auto)]
 
 mod canonical;

@@ -1,8 +1,8 @@
-ghost use Rattle.std.specs.Prelude.{◌≡◌, ◌≢◌, ◌↔◌, ℕ, ◌<◌, ◌≤◌, [], pos, negsuc, unsigned_abs, IfOk, if◌then◌else◌};
+ghost use Rattle.std.specs.Prelude.{◌≡◌, ◌≢◌, ◌↔◌, ℕ, ◌<◌, ◌≤◌, ◌<ℤ◌, [], pos, negsuc, unsigned_abs, IfOk, if◌then◌else◌};
 ghost use Rattle.std.specs.Cmp.{partial_equiv_from_equiv};
 ghost use Rattle.std.specs.Hash as fed;
 ghost use Rattle.theory_meaning.specs.Limits.{bound};
-ghost use Rattle.theory_polynomial.specs.Polynomial.{Monomial, IsPolynomialOf, IsBeyond, IsBeyondDivided, IsPrimitiveOf, IsCanonicalOf, IsLinearIn, IsFreeOf, IsSplit, constant_of, symbol_of, sum_of, difference_of, product_of, cross_of, scaled, height_of, degree_in};
+ghost use Rattle.theory_polynomial.specs.Polynomial.{Monomial, IsPolynomialOf, IsBeyond, IsBeyondDivided, IsPrimitiveOf, IsCanonicalOf, IsContent, IsLinearIn, IsFreeOf, IsSplit, constant_of, symbol_of, sum_of, difference_of, product_of, cross_of, scaled, height_of, degree_in};
 ghost use Rattle.theory_polynomial.specs.PolynomialValue.{Values, slope_in, base_in, HasSignAt, HaveSameSign, GivesValue, IsRestriction, IsWideRestriction};
 ghost use Rattle.theory_meaning.specs.declared.words.Sign.{Sign};
 ghost use Rattle.theory_poly.specs.Answers.{WideWhere};
@@ -10,7 +10,7 @@ ghost use Rattle.theory_poly.specs.Hashes.{is_same, hash_of, same_equivalence, s
 ghost use Rattle.theory_poly.specs.Kept.{IsKept, EachDivided};
 
 use crate::canonical::{signed_form, starts_below};
-use crate::content::quotient;
+use crate::content::{content_of_narrow, quotient};
 use crate::hashing::hash_of_terms;
 use crate::judging::{judged, judged_primitive};
 use crate::merging::sum_of_multiples;
@@ -175,6 +175,16 @@ impl Poly {
         let turned = starts_below(self.as_slice());
         let poly = signed_form(alloc, turned, self.as_slice())?;
         Ok((poly, turned))
+    }
+
+    /// The greatest common divisor of the coefficients, from 1 to 2^58.
+    pub fn content(&self) -> i64
+        requires { self.now ≢ [] }
+        ensures value { IsContent self.now (unsigned_abs result) }
+        ensures positive { pos 0 <ℤ result }
+        ensures small { unsigned_abs result ≤ bound }
+    {
+        content_of_narrow(self.as_slice()) as i64
     }
 
     /// Slope and base, where the exponents of the symbol are at most 1.
