@@ -13,10 +13,9 @@ use Rattle.theory_formula.specs.Formula.{Formula, Formulas, always, never, atom,
 use Rattle.theory_formula.specs.FormulaAtoms.{atoms_of}
 use Rattle.theory_formula.specs.SignCondition.{IsAtomOf, IsAtomPolynomial}
 use Rattle.theory_polynomial.proofs.FreeLaws.{lacks_is_free}
-use Rattle.theory_formula.specs.Symbols.{IsFree, IsProper}
-use Rattle.theory_formula.specs.WrittenClaim.{IsNamed}
+use Rattle.theory_formula.specs.Symbols.{IsFree, IsProper, IsNamed}
 use Rattle.theory_formula.proofs.FreeTerms.{TermsLack, lack_cross, terms_lack, primitive_lacks, atom_free, free_terms, lack_other_part}
-use Rattle.theory_formula.proofs.LoweredAtoms.{condition_proper, named_below}
+use Rattle.theory_formula.proofs.ProperFormulas.{named_below, condition_proper}
 use Rattle.theory_elimination.specs.TestPoint.{TestPoint, infinity, root, before, holds_symbol, end_of, listed, is_constant, constant_sign, ends_by_slope, ends_of_atom, ends_of_atoms, test_points}
 use Rattle.theory_elimination.specs.Substituted.{along_slope, IsConditionOn, IsLineAt, IsAtomWhere, IsAtomAt, IsFormulaAt, AreFormulasAt}
 use Rattle.theory_elimination.specs.Branches.{only, Plan, plain, guarded, level, plan_at, top_equation, others_of, root_plans, plans_by, branch_plans, IsWrittenBy, IsBranch}

@@ -9,7 +9,7 @@ use Rattle.theory_meaning.specs.Point.{Name}
 use Rattle.theory_polynomial.specs.Polynomial.{Monomial, IsLinearIn, IsFreeOf}
 use Rattle.theory_formula.specs.Formula.{Formula, Formulas, always, never, atom, conjunction, disjunction, none, more, formulas_list, formulas_from, EachAtom, EachAtomOfAll}
 use Rattle.theory_formula.specs.SignCondition.{IsAtomPolynomial, decided}
-use Rattle.theory_formula.specs.WrittenClaim.{IsNamed}
+use Rattle.theory_formula.specs.Symbols.{IsNamed}
 use Rattle.theory_elimination.specs.SameFormula.{is_same_poly, is_same}
 use Rattle.theory_elimination.specs.Facts.{Facts, judged}
 use Rattle.theory_elimination.specs.Simplified.{Part, Waiting, settled, condition, other, put_together, with_condition, gathered_behind, undecided, gathered, as_judged, by_facts, facts_within, as_part, spliced, members_under, as_formula, first_ones, list_of, bundled, finished, Judging, by_known, simplified_list_by, parts_by, all_parts_by, as_known, simplified_by, simplified_under}
@@ -29,16 +29,16 @@ module _ (Q : List Monomial → Type 0) where
   EachFormula (F ∷ Fs) = Each F × EachFormula Fs
 
   module _ {X : Type 0} (R : X → Type 0) where
-    abbrev OfPart : Part X → Type 0
+    abbrev pub OfPart : Part X → Type 0
     OfPart (settled b) = Unit {0}
     OfPart (condition P S) = Q P
     OfPart (other x) = R x
 
-    abbrev OfParts : List (Part X) → Type 0
+    abbrev pub OfParts : List (Part X) → Type 0
     OfParts [] = Unit {0}
     OfParts (m ∷ ms) = OfPart m × OfParts ms
 
-    abbrev OfSome : Option (List (Part X)) → Type 0
+    abbrev pub OfSome : Option (List (Part X)) → Type 0
     OfSome None = Unit {0}
     OfSome (Some ms) = OfParts ms
 
@@ -65,7 +65,7 @@ module _ (Q : List Monomial → Type 0) where
           | false ↦ of_mapped (condition O T) (with_condition all P S ms) h.0 (of_condition all P S ms q h.1)
         ]
 
-    of_then : (f : List (Part X) → Option (List (Part X))) (o : Option (List (Part X))) → ((ms : List (Part X)) → OfParts ms → OfSome (f ms)) → OfSome o
+    pub of_then : (f : List (Part X) → Option (List (Part X))) (o : Option (List (Part X))) → ((ms : List (Part X)) → OfParts ms → OfSome (f ms)) → OfSome o
         → OfSome (option_and_then f o)
     of_then f None k h = tt
     of_then f (Some ms) k h = k ms h
@@ -77,7 +77,7 @@ module _ (Q : List Monomial → Type 0) where
     of_gathered_behind all done (settled b ∷ ms) d h = of_gathered_behind all (done ++ settled b ∷ []) ms (of_append done (settled b ∷ []) d (tt, tt)) h.1
     of_gathered_behind all done (other x ∷ ms) d h = of_gathered_behind all (done ++ other x ∷ []) ms (of_append done (other x ∷ []) d (h.0, tt)) h.1
 
-    of_undecided : (all : Bool) (ms : List (Part X)) → OfParts ms → OfSome (undecided all ms)
+    pub of_undecided : (all : Bool) (ms : List (Part X)) → OfParts ms → OfSome (undecided all ms)
     of_undecided all [] h = tt
     of_undecided all (settled b ∷ ms) h =
         elim (beq b all) as (λ c. OfSome (if c then undecided all ms else None)) [ true ↦ of_undecided all ms h.1 | false ↦ tt ]
@@ -87,7 +87,7 @@ module _ (Q : List Monomial → Type 0) where
     of_gathered : (all : Bool) (ms : List (Part X)) → OfParts ms → OfSome (gathered all ms)
     of_gathered all ms h = of_then (undecided all) (gathered_behind all [] ms) (λ ns k. of_undecided all ns k) (of_gathered_behind all [] ms tt h)
 
-    of_judged : (P : List Monomial) (S : Signs) (o : Option Bool) → Q P → OfPart (as_judged P S o)
+    pub of_judged : (P : List Monomial) (S : Signs) (o : Option Bool) → Q P → OfPart (as_judged P S o)
     of_judged P S None q = q
     of_judged P S (Some b) q = tt
 
@@ -97,7 +97,7 @@ module _ (Q : List Monomial → Type 0) where
     of_facts K (condition P S ∷ ms) h = (of_judged P S (judged K P S) h.0, of_facts K ms h.1)
     of_facts K (other x ∷ ms) h = (h.0, of_facts K ms h.1)
 
-  abbrev Waits : (Facts → Formula) → Type 0
+  abbrev pub Waits : (Facts → Formula) → Type 0
   Waits f = (K : Facts) → Each (f K)
 
   of_formula : (F : Formula) → Each F → OfPart Each (as_part F)
@@ -203,7 +203,7 @@ module _ (Q : List Monomial → Type 0) where
     simplified_by_each K (disjunction Fs) h = list_simplified false K (all_parts_by J false Fs) (of_all_parts false Fs h)
 
   -- the facts on the polynomials alone keep it
-  known_keeps : (all : Bool) (K : Facts) (ms : List Waiting) → OfParts Waits ms → OfSome Waits (by_known.open_members all K ms)
+  pub known_keeps : (all : Bool) (K : Facts) (ms : List Waiting) → OfParts Waits ms → OfSome Waits (by_known.open_members all K ms)
   known_keeps all K ms h =
       of_then Waits (λ qs. undecided all (map (by_facts K) qs)) (gathered all ms) (λ qs k. of_undecided Waits all (map (by_facts K) qs) (of_facts Waits K qs k))
       (of_gathered Waits all ms h)

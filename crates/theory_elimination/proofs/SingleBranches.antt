@@ -8,7 +8,7 @@ use Rattle.theory_polynomial.specs.PolynomialValue.{slope_in, base_in}
 use Rattle.theory_polynomial.proofs.SingleForms.{primitive_single}
 use Rattle.theory_formula.specs.Formula.{Formula, Formulas, always, never, atom, conjunction, disjunction, none, more, both, either}
 use Rattle.theory_formula.specs.SignCondition.{IsAtomOf}
-use Rattle.theory_formula.proofs.SingleLowered.{condition_single}
+use Rattle.theory_formula.proofs.ConditionLaws.{condition_single}
 use Rattle.theory_elimination.specs.TestPoint.{TestPoint, infinity, root, before, holds_symbol}
 use Rattle.theory_elimination.specs.Substituted.{along_slope, IsConditionOn, IsLineAt, IsAtomWhere, IsAtomAt, IsFormulaAt, AreFormulasAt}
 use Rattle.theory_elimination.specs.Branches.{only, Plan, plain, guarded, level, IsWrittenBy, IsBranch}

@@ -5,7 +5,7 @@ use Rattle.theory_formula.specs.declared.signs.Signs.{Signs}
 use Rattle.theory_polynomial.specs.Polynomial.{Monomial, IsLinearIn}
 use Rattle.theory_polynomial.specs.PolynomialValue.{Values, first_of, rest_of}
 use Rattle.theory_formula.specs.SignCondition.{IsAtomPolynomial}
-pub use Rattle.theory_formula.specs.Symbols.{IsFree}
+use Rattle.theory_formula.specs.Symbols.{IsFree}
 use Rattle.theory_formula.specs.Formula.{Formula, EachAtom, IsTrueAt}
 use Rattle.theory_elimination.specs.Branches.{level, branch_plans, IsBranch}
 

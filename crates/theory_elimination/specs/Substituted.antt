@@ -7,8 +7,7 @@ use Rattle.theory_formula.specs.declared.signs.Signs.{Signs}
 use Rattle.theory_formula.specs.declared.signs.Signs.TheVariants as set
 use Rattle.theory_formula.specs.Signs.{mirror, without_zero}
 use Rattle.theory_polynomial.specs.Polynomial.{Monomial, IsPrimitiveOf, cross_of}
-use Rattle.theory_formula.specs.Formula.{Formula, Formulas, always, never, atom, conjunction, disjunction, none, more}
-pub use Rattle.theory_formula.specs.Formula.{both, either}
+use Rattle.theory_formula.specs.Formula.{Formula, Formulas, always, never, atom, conjunction, disjunction, none, more, both, either}
 use Rattle.theory_formula.specs.SignCondition.{IsAtomOf}
 use Rattle.theory_elimination.specs.TestPoint.{TestPoint, infinity, root, before, holds_symbol}
 use Rattle.theory_polynomial.specs.PolynomialValue.{slope_in, base_in}

@@ -3,7 +3,7 @@ use Rattle.std.specs.Prelude.{◌≡◌, ℕ, List, Some, slice_get, IsTrue}
 use Rattle.theory_formula.specs.declared.signs.Signs.{Signs}
 use Rattle.theory_polynomial.specs.Polynomial.{Monomial, cross_of, IsBeyondDivided}
 use Rattle.theory_formula.specs.Formula.{Formula}
-pub use Rattle.theory_formula.specs.Symbols.{SomeAtom, SomeAtomAmong}
+use Rattle.theory_formula.specs.Symbols.{SomeAtom, SomeAtomAmong}
 use Rattle.theory_elimination.specs.TestPoint.{TestPoint, infinity, root, before, holds_symbol}
 use Rattle.theory_polynomial.specs.PolynomialValue.{slope_in, base_in}
 use Rattle.theory_elimination.specs.Branches.{Plan, plain, guarded, level, branch_plans}

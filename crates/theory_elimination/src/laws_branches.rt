@@ -6,8 +6,7 @@ ghost use Rattle.theory_formula.specs.Formula.{Formula, EachAtom, IsTrueAt};
 ghost use Rattle.theory_elimination.specs.Branches.{IsBranch, branch_plans};
 ghost use Rattle.theory_elimination.specs.TestPoint.{TestPoint, test_points};
 ghost use Rattle.theory_elimination.specs.WorkedPoints.{two_ends, points_of_two_ends, vanishing, plans_of_vanishing, inner_equation, plans_of_inner};
-ghost use Rattle.theory_formula.specs.Symbols.{IsFree, IsProper};
-ghost use Rattle.theory_formula.specs.WrittenClaim.{IsNamed};
+ghost use Rattle.theory_formula.specs.Symbols.{IsFree, IsProper, IsNamed};
 ghost use Rattle.theory_elimination.specs.Substituted.{IsFormulaAt};
 ghost use Rattle.theory_elimination.specs.Elimination.{with_value, IsLinear, BranchIsTrueAt, IsLevelBranch};
 

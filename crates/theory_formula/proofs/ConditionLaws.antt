@@ -1,4 +1,4 @@
--- The truth of the sign condition on a polynomial, decided or on the canonical polynomial.
+-- The sign condition on a polynomial, decided or on the canonical polynomial: its truth, and that it is one.
 use Rattle.std.proofs.Common.{◌≡◌, ◌≢◌, ℕ, zero, suc, ◌<◌, ℤ, pos, negsuc, ◌+ℤ◌, ◌*ℤ◌, neg_ℤ, Bool, true, false, List, [], ◌∷◌, length, replicate, refl, sym, ap, ap₂, ◌∙◌, subst, arith, inl, inr, ⊎_elim}
 use Rattle.std.specs.Prelude.{if◌then◌else◌}
 use Rattle.std.specs.Ordering.{nat_cmp, ordering_then}
@@ -18,11 +18,13 @@ use Rattle.theory_formula.specs.declared.signs.Signs.TheVariants as set
 use Rattle.theory_polynomial.specs.Polynomial.{Monomial, coefficient_at, IsPolynomial, IsCanonicalOf, no_powers, greatest_of, greatest_exponent_of}
 use Rattle.theory_polynomial.specs.PolynomialValue.{Values, power_product, polynomial_at, HasSignAt, HaveSameSign}
 use Rattle.theory_formula.specs.Signs.{has, mirror, sign_of, sign_of_whole}
-use Rattle.theory_formula.specs.Formula.{Formula, truth_at, sign_at}
+use Rattle.theory_formula.specs.Formula.{Formula, atom, truth_at, sign_at}
 use Rattle.theory_formula.specs.SignCondition.{IsConstant, HasSymbol, IsDecided, IsCanonicalAtom, IsAtomOf, decided}
 use Rattle.theory_polynomial.proofs.CoefficientLaws.{coefficient_at-scaled, times_zero}
 use Rattle.theory_polynomial.proofs.FixedOrder.{coefficient_first}
 use Rattle.theory_polynomial.proofs.TurnedLaws.{canonical_kept, canonical_turned}
+use Rattle.theory_polynomial.proofs.SingleForms.{canonical_single}
+use Rattle.theory_meaning.proofs.FractionLaws.{Equals, back, sign_of_same}
 
 -- exponents that are all 0
 pub zero_powers : (e : List ℕ) → greatest_of e ≡ 0 → e ≡ replicate (length e) 0
@@ -195,3 +197,20 @@ condition_truth P S F p h k =
     (λ (d : IsDecided P S F). ap (λ G. truth_at G p) d.written ∙ decided_truth (has S (sign_of_whole (coefficient_at P no_powers))) p
     ∙ ap (has S) (sym (constant_sign_at P p h d.constant)))
     (λ (c : IsCanonicalAtom P S F). ap (λ G. truth_at G p) c.written ∙ canonical_atom_truth P c.poly S p c.turned c.canonical) k
+
+-- numbers that are the same have the same sign
+pub same_sign : (q r : Fraction) → Equals q r → sign_of q ≡ sign_of r
+same_sign q r h = sign_of_only q (sign_of r) (sign_of_same r q (sign_of r) (back h).is (sign_of_own r))
+
+-- a condition is one formula
+pub condition_single : (P : List Monomial) (S : Signs) (F G : Formula) → IsAtomOf P S F → IsAtomOf P S G → F ≡ G
+condition_single P S F G (inl w) (inl v) = w.written ∙ sym v.written
+condition_single P S F G (inl w) (inr v) =
+    let a = w.constant in
+    let b = v.symbol in absurd (omega (arith, a, b))
+condition_single P S F G (inr w) (inl v) =
+    let a = v.constant in
+    let b = w.symbol in absurd (omega (arith, a, b))
+condition_single P S F G (inr w) (inr v) =
+    let same = canonical_single P w.turned v.turned w.poly v.poly w.canonical v.canonical in
+    w.written ∙ ap₂ (λ (b : Bool) (r : List Monomial). atom r (if b then mirror S else S)) same.0 same.1 ∙ sym v.written

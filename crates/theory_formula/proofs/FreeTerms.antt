@@ -94,7 +94,7 @@ module _ (x : ℕ) where
       let back : pos g *ℤ c ≡ pos 0 = unturned (pos g *ℤ c) (sym (neg-times (pos g) c) ∙ e) in
       without_factor g c (pos 0) h (back ∙ sym (times_zero (pos g)))
 
-  canonical_lacks : (P r : List Monomial) (b : Bool) → LacksSymbol x P → IsCanonicalOf P b r → LacksSymbol x r
+  pub canonical_lacks : (P r : List Monomial) (b : Bool) → LacksSymbol x P → IsCanonicalOf P b r → LacksSymbol x r
   canonical_lacks P r true h w = record {
     none = λ e some.
         turned_factor w.content (coefficient_at r e) w.is_content.positive

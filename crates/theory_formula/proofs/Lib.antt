@@ -1,10 +1,5 @@
 pub mod FormulaLaws
 pub mod ConditionLaws
-pub mod WrittenLaws
-pub mod QuotientValues
-pub mod Undivided
-pub mod LoweredLaws
 pub mod FreeTerms
-pub mod SingleLowered
-pub mod LoweredAtoms
 pub mod ReadSymbols
+pub mod ProperFormulas

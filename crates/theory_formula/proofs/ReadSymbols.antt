@@ -9,7 +9,7 @@ use Rattle.theory_polynomial.specs.Polynomial.{Monomial, degree_in, IsFreeOf}
 use Rattle.theory_polynomial.specs.PolynomialValue.{Values, first_of, rest_of, symbol_at, power_product, polynomial_at}
 use Rattle.theory_formula.specs.Formula.{Formula, Formulas, always, never, atom, conjunction, disjunction, none, more, sign_at, truth_at, all_by, some_by, reading_at}
 use Rattle.theory_formula.specs.Symbols.{SomeAtomAmong, AgreeOnSymbols}
-use Rattle.theory_formula.proofs.WrittenLaws.{same_sign}
+use Rattle.theory_formula.proofs.ConditionLaws.{same_sign}
 
 -- powers and products of powers
 first_power : (n : ℕ) (p q : Values) → ((n ≡ 0 → ⊥) → IsSame (first_of p) (first_of q)) → Equals (power_of (first_of p) n) (power_of (first_of q) n)

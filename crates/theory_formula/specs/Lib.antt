@@ -1,9 +1,5 @@
 pub mod Signs
 pub mod Formula
 pub mod FormulaAtoms
-pub mod NormalForm
 pub mod SignCondition
 pub mod Symbols
-pub mod Lowered
-pub mod LoweringLimits
-pub mod WrittenClaim

@@ -1,6 +1,7 @@
--- Which symbols occur in a formula, what is asked of its polynomials, and points that agree on its symbols.
-use Rattle.std.specs.Prelude.{ℕ, ◌⊎◌, List}
+-- Which symbols occur in a formula and are named, what is asked of its polynomials, and points that agree on its symbols.
+use Rattle.std.specs.Prelude.{ℕ, ◌⊎◌, ◌≤◌, List, length}
 use Rattle.theory_meaning.specs.Fraction.{IsSame}
+use Rattle.theory_meaning.specs.Point.{Name}
 use Rattle.theory_formula.specs.declared.signs.Signs.{Signs}
 use Rattle.theory_polynomial.specs.Polynomial.{Monomial, IsFreeOf}
 use Rattle.theory_polynomial.specs.PolynomialValue.{Values, symbol_at}
@@ -35,3 +36,7 @@ IsProper F = EachAtom (λ P S. IsAtomPolynomial P) F
 -- the points give each symbol of the formula the same value
 abbrev pub AgreeOnSymbols : Formula → Values → Values → Type 0
 AgreeOnSymbols F p q = (x : ℕ) → Occurs x F → IsSame (symbol_at x p) (symbol_at x q)
+
+-- no symbol occurs that isn't listed
+abbrev pub IsNamed : List Name → List Monomial → Signs → Type 0
+IsNamed ns P S = (x : ℕ) → length ns ≤ x → IsFreeOf x P

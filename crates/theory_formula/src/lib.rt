@@ -1,11 +1,10 @@
-//! Formulas of sign conditions on polynomials, and claims lowered to them.
+//! Formulas of sign conditions on polynomials.
 //!
-//! The definitions stand in `specs/`: `Signs` and `Formula`, then `SignCondition`, `Symbols`,
-//! `Lowered` with its limits, and `WrittenClaim`. `laws` and `laws_lowering` say what they mean.
+//! The definitions stand in `specs/`: `Signs` and `Formula`, then `SignCondition` and `Symbols`.
+//! `laws` says what they mean.
 #![tactic(auto)]
 
 mod laws;
-mod laws_lowering;
 mod signs;
 
 pub use laws::{
@@ -13,9 +12,5 @@ pub use laws::{
     each_fraction_has_one_sign, mirror_and_complement_have_their_signs, negation_turns_truth,
     parts_of_sets_have_their_signs, relations_are_signs_of_differences,
     true_atoms_keep_a_formula_true, truth_reads_the_symbols_that_occur,
-};
-pub use laws_lowering::{
-    lowered_formulas_are_named, lowered_formulas_are_proper, lowered_formulas_are_single,
-    lowered_formulas_keep_truth, written_claims_keep_truth,
 };
 pub use signs::Signs;

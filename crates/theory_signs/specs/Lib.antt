@@ -3,6 +3,3 @@ pub use Rattle.theory_formula.specs.Formula
 pub use Rattle.theory_formula.specs.SignCondition
 pub mod Condition
 pub mod Plain
-pub mod Combined
-pub mod Lowering
-pub mod Message

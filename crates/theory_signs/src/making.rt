@@ -28,6 +28,7 @@ pub fn make_atom(alloc: Global, poly: &Poly, signs: Signs) -> Result<Formula, No
     }
 }
 
+/// True or false as a formula.
 pub fn decision(truth: bool) -> Formula
     ensures { formula_of result ≡ decided truth }
 {

@@ -1,7 +1,7 @@
 ghost use Rattle.std.specs.Prelude.{◌≡◌, ℕ, ◌≤◌, ◌<◌, length, slice_index, map, MatchBool};
 ghost use Rattle.theory_polynomial.specs.Polynomial.{degree_in};
 ghost use Rattle.theory_formula.specs.Formula.{formulas_from, EachAtom, EachAtomOfAll};
-ghost use Rattle.theory_formula.specs.WrittenClaim.{IsNamed};
+ghost use Rattle.theory_formula.specs.Symbols.{IsNamed};
 ghost use Rattle.theory_signs.specs.Plain.{formula_of};
 
 use crate::formula::Formula;

@@ -8,7 +8,8 @@ use Rattle.theory_formula.specs.Formula.{IsTrueAt, formulas_list, formulas_from}
 use Rattle.theory_formula.specs.Formula as tree
 use Rattle.theory_elimination.specs.TestPoint.{is_constant, test_points}
 use Rattle.theory_elimination.specs.Branches.{Taken, Plan, plan_at, plans_by, root_plans, branch_plans, top_equation, equation_of, plain_equation_of, taken_behind, or_else, members_of, others_of}
-use Rattle.theory_elimination.specs.Elimination.{with_value, IsLinear, IsFree, IsLevelBranch, BranchIsTrueAt}
+use Rattle.theory_elimination.specs.Elimination.{with_value, IsLinear, IsLevelBranch, BranchIsTrueAt}
+use Rattle.theory_formula.specs.Symbols.{IsFree}
 use Rattle.theory_elimination.proofs.FreeBranches.{branch_free}
 use Rattle.theory_elimination.proofs.BranchLaws.{branch_has_value, some_branch_is_true}
 use Rattle.theory_elimination.specs.Widths.{IsWideBranch}

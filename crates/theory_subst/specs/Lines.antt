@@ -4,11 +4,12 @@ use Rattle.theory_formula.specs.declared.signs.Signs.{Signs}
 use Rattle.theory_formula.specs.declared.signs.Signs.TheVariants as set
 use Rattle.theory_formula.specs.Signs.{without_zero}
 use Rattle.theory_polynomial.specs.Polynomial.{Monomial, cross_of, IsBeyondDivided}
-use Rattle.theory_formula.specs.Formula.{Formula, Formulas}
+use Rattle.theory_formula.specs.Formula.{Formula, Formulas, both, either}
 use Rattle.theory_formula.specs.SignCondition.{IsAtomOf}
 use Rattle.theory_elimination.specs.TestPoint.{TestPoint, infinity, root, before}
-use Rattle.theory_elimination.specs.Substituted.{either, both, IsConditionOn}
-use Rattle.theory_elimination.specs.Widths.{SomeAtomAmong, IsWideCross}
+use Rattle.theory_elimination.specs.Substituted.{IsConditionOn}
+use Rattle.theory_elimination.specs.Widths.{IsWideCross}
+use Rattle.theory_formula.specs.Symbols.{SomeAtomAmong}
 
 -- the first polynomial is in its set and not zero, or it is zero and the second is in its own
 pub record IsBySign (P : List Monomial) (S : Signs) (Q : List Monomial) (T : Signs) (F : Formula) : Type 0 where

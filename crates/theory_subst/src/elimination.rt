@@ -5,8 +5,8 @@ ghost use Rattle.theory_formula.specs.Formula.{IsTrueAt};
 ghost use Rattle.theory_formula.specs.Formula as tree;
 ghost use Rattle.theory_elimination.specs.Branches.{IsLevel, IsWrittenBy, only, plan_at};
 ghost use Rattle.theory_elimination.specs.Substituted.{IsFormulaAt};
-ghost use Rattle.theory_elimination.specs.Substituted as plain;
-ghost use Rattle.theory_elimination.specs.Elimination.{with_value, IsLinear, IsFree, IsLevelBranch, BranchIsTrueAt};
+ghost use Rattle.theory_elimination.specs.Elimination.{with_value, IsLinear, IsLevelBranch, BranchIsTrueAt};
+ghost use Rattle.theory_formula.specs.Symbols.{IsFree};
 ghost use Rattle.theory_elimination.specs.Widths.{IsWidePlan, IsWideBranch};
 ghost use Rattle.theory_poly.specs.Answers.{WideWhere};
 ghost use Rattle.theory_signs.specs.Plain.{formula_of};
@@ -235,7 +235,7 @@ fn only(sign: Sign) -> Signs
 
 fn both(alloc: Global, first: Formula, second: Formula) -> Result<Formula, NoMemory>
     ensures { IfOk result (λ F.
-        formula_of F ≡ plain.both (formula_of first) (formula_of second)) }
+        formula_of F ≡ tree.both (formula_of first) (formula_of second)) }
 {
     let mut members = Vec::new(alloc);
     members.push(first)?;

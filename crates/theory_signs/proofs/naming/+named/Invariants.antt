@@ -1,6 +1,6 @@
 use Rattle.std.proofs.Common.{map, drop}
 use Rattle.theory_formula.specs.Formula.{formulas_from, EachAtomOfAll}
-use Rattle.theory_formula.specs.WrittenClaim.{IsNamed}
+use Rattle.theory_formula.specs.Symbols.{IsNamed}
 use Rattle.theory_signs.specs.Plain.{formula_of}
 use Rattle.theory_signs.proofs.naming.+named.Given as goal
 

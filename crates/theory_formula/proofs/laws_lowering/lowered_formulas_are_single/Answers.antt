@@ -1,8 +1,0 @@
-use Rattle.theory_formula.proofs.SingleLowered.{form_single, lowered_single}
-use Rattle.theory_formula.proofs.laws_lowering.lowered_formulas_are_single.Goals as goal
-
-pub returns-clause-form : goal.returns-clause-form
-returns-clause-form c = form_single
-
-pub returns-clause-formula : goal.returns-clause-formula
-returns-clause-formula c = lowered_single

@@ -1,0 +1,9 @@
+pub mod WrittenLemmas
+pub mod FunctionLaws
+pub mod QuotientParts
+pub mod FormLaws
+pub mod TreeLemmas
+pub mod CountLemmas
+pub mod LoweringLemmas
+pub mod DivisorLemmas
+pub mod ConditionLemmas

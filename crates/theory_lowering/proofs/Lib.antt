@@ -1,0 +1,12 @@
+pub mod WrittenLaws
+pub mod QuotientValues
+pub mod RationalValues
+pub mod DividedValues
+pub mod FormValues
+pub mod ConditionsOnForms
+pub mod DivisorLaws
+pub mod LoweredLaws
+pub mod SingleFractions
+pub mod SingleLowered
+pub mod LackingForms
+pub mod LoweredAtoms
