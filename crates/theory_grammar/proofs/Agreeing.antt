@@ -83,6 +83,7 @@ plain_close_expr x _ (p ∷ o) ctx = tt
 
 plain_term : (x : Expr) (p : Place) (o : List Place) (ctx : Context) (t : Token) → IsPlain (m.after_term x p o ctx t)
 plain_term x p o ctx (mark sign.Times) = tt
+plain_term x p o ctx (mark sign.Over) = tt
 plain_term x p o ctx (mark sign.Plus) = tt
 plain_term x p o ctx (mark sign.Minus) = tt
 plain_term x p o ctx t = plain_close_expr (m.joined p.sum x) t o ctx
@@ -128,10 +129,17 @@ agrees_exponent : (x : Expr) (p : Place) (o : List Place) (ctx : Context) (t : T
 agrees_exponent x p o ctx (number k) = agrees_gate Exponent (nat_le 1 k && nat_le k 8) _
 agrees_exponent x p o ctx _ = (start, λ limits. refl)
 
+agrees_divisor : (p : Place) (o : List Place) (ctx : Context) (t : Token) → Agrees (m.at_divisor every p o ctx t) (λ limits. m.at_divisor limits p o ctx t)
+agrees_divisor p o ctx (mark sign.Open) = agrees_gate Deep (nat_lt p.depth 32) _
+agrees_divisor p o ctx (number n) = λ limits. refl
+agrees_divisor p o ctx (name x) = λ limits. refl
+agrees_divisor p o ctx (dotted x) = λ limits. refl
+agrees_divisor p o ctx _ = (start, λ limits. refl)
+
 agrees_below : (n : ℕ) (p : Place) (o : List Place) (ctx : Context) (t : Token)
     → Agrees (m.at_below every n p o ctx t) (λ limits. m.at_below limits n p o ctx t)
 agrees_below n p o ctx (number k) = agrees_gate ZeroBelow (nat_lt 0 k) _
-agrees_below n p o ctx _ = (start, λ limits. refl)
+agrees_below n p o ctx t = agrees_divisor (m.over (m.settled p (plain.number (whole (pos n)))) p) o ctx t
 
 -- each step agrees with the steps within fewer limits
 pub agrees : (st : State) (t : Token) → Agrees (step every st t) (λ limits. step limits st t)
@@ -158,4 +166,5 @@ agrees (m.integer n p o ctx) t = agrees_plain _ (plain_integer n p o ctx t)
 agrees (m.closed x p o ctx) t = agrees_plain _ (plain_closed x p o ctx t)
 agrees (m.exponent x p o ctx) t = agrees_exponent x p o ctx t
 agrees (m.below n p o ctx) t = agrees_below n p o ctx t
+agrees (m.divisor p o ctx) t = agrees_divisor p o ctx t
 agrees (m.term x p o ctx) t = agrees_plain _ (plain_term x p o ctx t)

@@ -124,4 +124,5 @@ module _ (limits : Limits) where
       let e = number_ends (not limits.exponent) Exponent (m.settled p (plain.power x 1)) (m.reset p) o ctx in (number 1 ∷ expr_end o ctx, e.0, e.1)
   closes (m.below n p o ctx) =
       let e = number_ends (not limits.below) ZeroBelow (m.settled p (plain.number (lowest n 1))) (m.reset p) o ctx in (number 1 ∷ expr_end o ctx, e.0, e.1)
+  closes (m.divisor p o ctx) = let e = closed_ends (plain.symbol (codes "x")) p o ctx in (name (codes "x") ∷ expr_end o ctx, e.0, e.1)
   closes (m.term x p o ctx) = let e = term_ends x p o ctx in (expr_end o ctx, e.0, e.1)

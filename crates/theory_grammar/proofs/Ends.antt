@@ -1,15 +1,20 @@
 -- What the tokens before and behind an operand or a claim spell together.
-use Rattle.std.proofs.Common.{◌≡◌, ℕ, zero, suc, List, [], ◌∷◌, ◌++◌, Option, None, Some, sym, ap, subst, ◌∙◌, append_assoc}
+use Rattle.std.proofs.Common.{◌≡◌, ℕ, zero, suc, false, List, [], ◌∷◌, ◌++◌, Option, None, Some, refl, sym, ap, subst, ◌∙◌, append_assoc}
 use Rattle.theory_meaning.specs.Tree.{Expr, Claim}
 use Rattle.theory_meaning.specs.Tree as plain
 use Rattle.theory_grammar.specs.declared.words.Keyword.TheVariants as word
 use Rattle.theory_grammar.specs.declared.words.Mark.TheVariants as sign
 use Rattle.theory_grammar.specs.Token.{Token, keyword, mark}
-use Rattle.theory_grammar.specs.Spelled.{Limits, has_room, IsExpr, IsClaim, AreConjuncts, AreDisjuncts, conjunction_of, disjunction_of}
+use Rattle.theory_grammar.specs.Spelled.{Limits, has_room, Last, loose, tight, last_of, IsExpr, IsClaim, AreConjuncts, AreDisjuncts, conjunction_of, disjunction_of}
 use Rattle.theory_grammar.specs.Spelled as rule
-use Rattle.theory_grammar.specs.Machine.{Left, alone, plus, minus, Place, ClaimPlace, Heading, Context}
+use Rattle.theory_grammar.specs.Machine.{Left, alone, plus, minus, Product, leading, to_multiply, to_divide, Place, ClaimPlace, Heading, Context}
 use Rattle.theory_grammar.specs.Machine as m
-use Rattle.theory_grammar.proofs.Reached.{Sums, Products, Signs, Others, Premises, Disjuncts, Conjuncts, Outside, Behind, BehindTerm, BehindClaim}
+use Rattle.theory_grammar.proofs.Reached.{is_bare, NoDivisor, Signless, Fits, Solid, InPlace, Sums, Products, Signs, Others, Premises, Disjuncts, Conjuncts, Outside, Behind, BehindTerm, BehindClaim}
+
+-- the last of tokens in two parts
+pub last_both : (last : Last) (ts us : List Token) → last_of last (ts ++ us) ≡ last_of (last_of last ts) us
+last_both last [] us = refl
+last_both last (t ∷ ts) us = last_both (rule.last_behind last t) ts us
 
 module _ (limits : Limits) where
   pub as_expr : (level : rule.Level) (d : ℕ) (ts us : List Token) (x : Expr) → ts ≡ us → IsExpr limits level d us x → IsExpr limits level d ts x
@@ -32,10 +37,11 @@ module _ (limits : Limits) where
       (opposed n base h.0 h.1 (mark sign.Minus ∷ us) (plain.opposite x) h.4 (rule.negated h.3 inner))
 
   -- a factor behind a product
-  pub multiplied : (base : ℕ) (p : Option Expr) (ts us : List Token) (y : Expr) → Products limits base p ts → IsExpr limits rule.factor base us y
+  pub multiplied : (base : ℕ) (p : Product) (ts us : List Token) (y : Expr) → NoDivisor p → Products limits base p ts → IsExpr limits rule.factor base us y
       → IsExpr limits rule.term base (ts ++ us) (m.multiplied p y)
-  multiplied base None ts us y h e = as_expr rule.term base (ts ++ us) us y (ap (λ (vs : List Token). vs ++ us) h) (rule.one_factor e)
-  multiplied base (Some x) ts us y h e =
+  multiplied base (to_divide x) ts us y free h e = elim free [ ]
+  multiplied base leading ts us y free h e = as_expr rule.term base (ts ++ us) us y (ap (λ (vs : List Token). vs ++ us) h) (rule.one_factor e)
+  multiplied base (to_multiply x) ts us y free h e =
       as_expr rule.term base (ts ++ us) (h.0 ++ mark sign.Times ∷ us) (plain.product x y) (regroup ts h.0 us (mark sign.Times) h.2) (rule.times h.1 e)
 
   -- a term behind a sum
@@ -47,22 +53,70 @@ module _ (limits : Limits) where
   joined base (minus x) ts us y h e =
       as_expr rule.sum base (ts ++ us) (h.0 ++ mark sign.Minus ∷ us) (plain.difference x y) (regroup ts h.0 us (mark sign.Minus) h.2) (rule.minus h.1 e)
 
-  -- a factor ends a term
-  pub factored : (p : Place) (o : List Place) (ctx : Context) (x : Expr) (before : List Token) → Behind limits rule.factor p o ctx x before
+  -- a power behind a product or as a divisor
+  pub divided : (f : Product) (n base depth : ℕ) (ps ms us : List Token) (y : Expr) → Products limits base f ps → Signless f n
+      → Signs limits (mark sign.Minus) base n depth ms → Fits f ps us → IsExpr limits rule.power depth us y
+      → IsExpr limits rule.term base (ps ++ (ms ++ us)) (m.multiplied f (m.opposites n y))
+  divided leading n base depth ps ms us y h s g fits e =
+      multiplied base leading ps (ms ++ us) (m.opposites n y) tt h (opposed n base depth ms us y g (rule.one_power e))
+  divided (to_multiply x) n base depth ps ms us y h s g fits e =
+      multiplied base (to_multiply x) ps (ms ++ us) (m.opposites n y) tt h (opposed n base depth ms us y g (rule.one_power e))
+  divided (to_divide x) zero base depth ps ms us y h s g fits e =
+      let inner : IsExpr limits rule.power base us y = subst (λ (d : ℕ). IsExpr limits rule.power d us y) g.0 e in
+      as_expr rule.term base (ps ++ (ms ++ us)) (h.0 ++ mark sign.Over ∷ us) (plain.quotient x y)
+      (ap (λ (vs : List Token). ps ++ (vs ++ us)) g.1 ∙ regroup ps h.0 us (mark sign.Over) h.2) (rule.divided (fits h.0 h.2) h.1 inner)
+  divided (to_divide x) (suc n) base depth ps ms us y h s g fits e = absurd cc
+
+  -- and what stands last
+  ends_solid : (f : Product) (n base depth : ℕ) (ps ms us : List Token) → Products limits base f ps → Signless f n
+      → Signs limits (mark sign.Minus) base n depth ms → Solid f us → is_bare (last_of loose (ps ++ (ms ++ us))) ≡ false
+  ends_solid leading n base depth ps ms us h s g solid =
+      ap is_bare (last_both loose ps (ms ++ us) ∙ last_both (last_of loose ps) ms us) ∙ solid (last_of (last_of loose ps) ms)
+  ends_solid (to_multiply x) n base depth ps ms us h s g solid =
+      ap is_bare (last_both loose ps (ms ++ us) ∙ last_both (last_of loose ps) ms us) ∙ solid (last_of (last_of loose ps) ms)
+  ends_solid (to_divide x) zero base depth ps ms us h s g solid =
+      ap (λ (vs : List Token). is_bare (last_of loose (ps ++ (vs ++ us)))) g.1
+      ∙ ap (λ (vs : List Token). is_bare (last_of loose vs)) (regroup ps h.0 us (mark sign.Over) h.2)
+      ∙ ap is_bare (last_both loose h.0 (mark sign.Over ∷ us)) ∙ solid
+  ends_solid (to_divide x) (suc n) base depth ps ms us h s g solid = absurd cc
+
+  -- what ends a term
+  abbrev pub behind_term : (p : Place) (o : List Place) (ctx : Context) (y : Expr) (before front own : List Token) → before ≡ front ++ own
+      → (place : InPlace limits (Outside limits o ctx) p front) → IsExpr limits rule.term p.base (place.products ++ (place.minuses ++ own)) y
+      → BehindTerm limits (m.reset p) o ctx y before
+  behind_term p o ctx y before front own e place h = record {
+    outside = place.outside;
+    sums = place.sums;
+    own = place.products ++ (place.minuses ++ own);
+    parts = e ∙ ap (λ (ts : List Token). ts ++ own) place.parts ∙ simp append_assoc;
+    around = place.around;
+    in_sum = place.in_sum;
+    spelled = h;
+  }
+
+  abbrev pub factored : (p : Place) (o : List Place) (ctx : Context) (x : Expr) (before : List Token) → Behind limits rule.power p o ctx x before
       → BehindTerm limits (m.reset p) o ctx (m.settled p x) before
-  factored p o ctx x before h =
-      let e : before ≡ h.front ++ h.own = h.parts in
-      let f : h.front ≡ h.place.outside ++ (h.place.sums ++ (h.place.products ++ h.place.minuses)) = h.place.parts in
-      record {
-        outside = h.place.outside;
-        sums = h.place.sums;
-        own = h.place.products ++ (h.place.minuses ++ h.own);
-        parts = e ∙ ap (λ (ts : List Token). ts ++ h.own) f ∙ simp append_assoc;
-        around = h.place.around;
-        in_sum = h.place.in_sum;
-        spelled = multiplied p.base p.product h.place.products (h.place.minuses ++ h.own) (m.opposites p.minuses x) h.place.in_product
-            (opposed p.minuses p.base p.depth h.place.minuses h.own x h.place.in_signs h.spelled);
-      }
+  factored p o ctx x before h = behind_term p o ctx (m.settled p x) before h.front h.own h.parts h.place
+      (divided p.product p.minuses p.base p.depth h.place.products h.place.minuses h.own x h.place.in_product h.place.signless h.place.in_signs
+      h.fits h.spelled)
+
+  pub factored_solid : (p : Place) (o : List Place) (ctx : Context) (x : Expr) (before : List Token) (h : Behind limits rule.power p o ctx x before)
+      → Solid p.product h.own → is_bare (last_of loose (h.place.products ++ (h.place.minuses ++ h.own))) ≡ false
+  factored_solid p o ctx x before h solid =
+      ends_solid p.product p.minuses p.base p.depth h.place.products h.place.minuses h.own h.place.in_product h.place.signless h.place.in_signs solid
+
+  -- a literal ends a term
+  abbrev pub literal : (p : Place) (o : List Place) (ctx : Context) (x : Expr) (before front own : List Token) → before ≡ front ++ own
+      → (place : InPlace limits (Outside limits o ctx) p front) → NoDivisor p.product → IsExpr limits rule.factor p.depth own x
+      → BehindTerm limits (m.reset p) o ctx (m.settled p x) before
+  literal p o ctx x before front own e place free h = behind_term p o ctx (m.settled p x) before front own e place
+      (multiplied p.base p.product place.products (place.minuses ++ own) (m.opposites p.minuses x) free place.in_product
+      (opposed p.minuses p.base p.depth place.minuses own x place.in_signs h))
+
+  pub literal_solid : (p : Place) (o : List Place) (ctx : Context) (front own : List Token) (place : InPlace limits (Outside limits o ctx) p front)
+      → Solid p.product own → is_bare (last_of loose (place.products ++ (place.minuses ++ own))) ≡ false
+  literal_solid p o ctx front own place solid =
+      ends_solid p.product p.minuses p.base p.depth place.products place.minuses own place.in_product place.signless place.in_signs solid
 
   -- the tokens behind a whole expression
   pub record BehindExpr (base : ℕ) (o : List Place) (ctx : Context) (x : Expr) (before : List Token) : Type 0 where

@@ -1,34 +1,17 @@
 -- The levels at which expressions stand, with and without brackets.
-use Rattle.std.proofs.Common.{◌≡◌, ◌⊎◌, inl, inr, ⊎_elim, ℕ, suc, ◌≤◌, Bool, true, false, cond, List, [], ◌∷◌, ◌++◌, refl, sym, ◌∙◌, subst, arith}
-use Rattle.std.proofs.lemmas.Bool.{false≢true, cases_Bool, ltb-true, lt-ltb}
+use Rattle.std.proofs.Common.{◌≡◌, ℕ, suc, Bool, true, false, cond, List, [], ◌∷◌, ◌++◌, refl, subst, ap}
+use Rattle.std.proofs.lemmas.Bool.{false≢true, and_parts}
+use Rattle.std.specs.Prelude.{not, ◌&&◌}
 use Rattle.theory_meaning.specs.Tree.{Expr}
 use Rattle.theory_meaning.specs.Tree as plain
+use Rattle.theory_grammar.specs.declared.words.Mark.{Mark}
 use Rattle.theory_grammar.specs.declared.words.Mark.TheVariants as sign
 use Rattle.theory_grammar.specs.Token.{Token, mark}
-use Rattle.theory_grammar.specs.Spelled.{every, has_room, Level, sum, term, factor, power, primary, IsExpr, whole_number, identifier, dotted_name, bracket, one_primary, raised, one_power, fraction, negated, one_factor, times, one_term, plus, minus}
-use Rattle.theory_grammar.specs.Printed.{round_unless, is_term, is_factor, is_primary, is_power, expr_text}
+use Rattle.theory_grammar.specs.Opened.{one_more_unless, open_in_expr}
+use Rattle.theory_grammar.specs.Spelled.{Limits, Last, bare, tight, loose, last_of, begins_with_number, may_divide, Level, sum, term, factor, power, primary, IsExpr, bracket, one_primary, one_power, one_factor, one_term}
+use Rattle.theory_grammar.specs.Printed.{round_unless, is_term, is_factor, is_primary, is_power, is_divisor, begins_with_digit, expr_text}
+use Rattle.theory_grammar.proofs.Opening.{limited, Fits, room, inside}
 use Rattle.theory_grammar.proofs.LeadLaws.{Leads, joined_by, closed_by, nothing_more, any_open, mark_leads, apart}
-
--- behind fewer open signs there is room too
-pub room_before : (d e : ℕ) → e ≤ d → has_room every d ≡ true → has_room every e ≡ true
-room_before d e h room = lt-ltb e 32 (omega (arith, ltb-true d 32 room))
-
--- and the same tokens spell the same
-pub fewer_open : {L : Level} {ts : List Token} {x : Expr} (d e : ℕ) → e ≤ d → IsExpr every L d ts x → IsExpr every L e ts x
-fewer_open d e h (whole_number) = whole_number
-fewer_open d e h (identifier) = identifier
-fewer_open d e h (dotted_name) = dotted_name
-fewer_open d e h (bracket room k) = bracket (room_before d e h room) (fewer_open (suc d) (suc e) (omega arith) k)
-fewer_open d e h (one_primary k) = one_primary (fewer_open d e h k)
-fewer_open d e h (raised fits k) = raised fits (fewer_open d e h k)
-fewer_open d e h (one_power k) = one_power (fewer_open d e h k)
-fewer_open d e h (fraction fits) = fraction fits
-fewer_open d e h (negated room k) = negated (room_before d e h room) (fewer_open (suc d) (suc e) (omega arith) k)
-fewer_open d e h (one_factor k) = one_factor (fewer_open d e h k)
-fewer_open d e h (times k l) = times (fewer_open d e h k) (fewer_open d e h l)
-fewer_open d e h (one_term k) = one_term (fewer_open d e h k)
-fewer_open d e h (plus k l) = plus (fewer_open d e h k) (fewer_open d e h l)
-fewer_open d e h (minus k l) = minus (fewer_open d e h k) (fewer_open d e h l)
 
 -- the level at which an expression stands without brackets
 abbrev pub own : Expr → Level
@@ -38,8 +21,8 @@ own (plain.sum u v) = sum
 own (plain.difference u v) = sum
 own (plain.opposite u) = factor
 own (plain.product u v) = term
-own (plain.power u k) = power
 own (plain.quotient u v) = term
+own (plain.power u k) = power
 
 -- and whether it stands so at a level
 abbrev pub stands : Level → Expr → Bool
@@ -49,6 +32,7 @@ stands factor x = is_factor x
 stands power x = is_power x
 stands primary x = is_primary x
 
+-- the levels at which everything of a level stands too
 abbrev pub reaches : Level → Level → Bool
 reaches primary L = true
 reaches power primary = false
@@ -62,7 +46,8 @@ reaches term L = false
 reaches sum sum = true
 reaches sum L = false
 
-pub lift : (M L : Level) {d : ℕ} {ts : List Token} {x : Expr} → reaches M L ≡ true → IsExpr every M d ts x → IsExpr every L d ts x
+-- what stands at a level stands at those that it reaches
+pub lift : (M L : Level) {limits : Limits} {d : ℕ} {ts : List Token} {x : Expr} → reaches M L ≡ true → IsExpr limits M d ts x → IsExpr limits L d ts x
 lift primary primary h k = k
 lift primary power h k = one_primary k
 lift primary factor h k = one_power (one_primary k)
@@ -89,6 +74,7 @@ lift sum factor h k = absurd (false≢true h)
 lift sum term h k = absurd (false≢true h)
 lift sum sum h k = k
 
+-- each level reaches that of sums
 pub reaches_sum : (M : Level) → reaches M sum ≡ true
 reaches_sum sum = refl
 reaches_sum term = refl
@@ -104,7 +90,8 @@ number_reaches false factor h k = refl
 number_reaches false power h k = absurd (false≢true (k refl))
 number_reaches false primary h k = absurd (false≢true (h refl))
 
-stands_reaches : (L : Level) (x : Expr) → stands L x ≡ true → reaches (own x) L ≡ true
+-- what stands at a level has a level that reaches it
+pub stands_reaches : (L : Level) (x : Expr) → stands L x ≡ true → reaches (own x) L ≡ true
 stands_reaches L (plain.number q) h =
     number_reaches (is_primary (plain.number q)) L
     (λ e. subst (λ M. stands M (plain.number q) ≡ true) e h) (λ e. subst (λ M. stands M (plain.number q) ≡ true) e h)
@@ -129,57 +116,85 @@ stands_reaches term (plain.product u v) h = refl
 stands_reaches factor (plain.product u v) h = h
 stands_reaches power (plain.product u v) h = h
 stands_reaches primary (plain.product u v) h = h
-stands_reaches sum (plain.power u k) h = refl
-stands_reaches term (plain.power u k) h = refl
-stands_reaches factor (plain.power u k) h = refl
-stands_reaches power (plain.power u k) h = refl
-stands_reaches primary (plain.power u k) h = h
 stands_reaches sum (plain.quotient u v) h = refl
 stands_reaches term (plain.quotient u v) h = refl
 stands_reaches factor (plain.quotient u v) h = h
 stands_reaches power (plain.quotient u v) h = h
 stands_reaches primary (plain.quotient u v) h = h
+stands_reaches sum (plain.power u k) h = refl
+stands_reaches term (plain.power u k) h = refl
+stands_reaches factor (plain.power u k) h = refl
+stands_reaches power (plain.power u k) h = refl
+stands_reaches primary (plain.power u k) h = h
 
--- the printed form without brackets around it is read as tokens of its own level
-pub record Bare (d : ℕ) (x : Expr) : Type 0 where
-  pub tokens : List Token
-  pub spells : IsExpr every (own x) d tokens x
-  pub leads : Leads true tokens (expr_text x)
+-- tokens that begin with a number, and whether they may stand behind `/`
+pub is_first_number : (ts us : List Token) (s : Mark) → begins_with_number (ts ++ mark s ∷ us) ≡ true → begins_with_number ts ≡ true
+is_first_number [] us s h = absurd (false≢true h)
+is_first_number (t ∷ ts) us s h = h
 
--- at this level it stands so, or there is room for brackets
-pub record Printable (L : Level) (d : ℕ) (x : Expr) : Type 0 where
-  pub bare : Bare d x
-  pub fits : (stands L x ≡ true) ⊎ ((has_room every d ≡ true) × Bare (suc d) x)
+no_number : (last : Last) (us : List Token) → begins_with_number us ≡ false → may_divide last us ≡ true
+no_number bare us h = ap not h
+no_number tight us h = refl
+no_number loose us h = refl
 
--- the printed form at a level
-pub record Printed (L : Level) (d : ℕ) (x : Expr) : Type 0 where
-  pub tokens : List Token
-  pub spells : IsExpr every L d tokens x
-  pub leads : Leads true tokens (round_unless (stands L x) (expr_text x))
+pub before_divisor : (ts us : List Token) → begins_with_number us ≡ false → may_divide (last_of loose ts) us ≡ true
+before_divisor ts us h = no_number (last_of loose ts) us h
 
-without_brackets : (L : Level) (d : ℕ) (x : Expr) → stands L x ≡ true → Bare d x → Printed L d x
-without_brackets L d x at b = record {
-  tokens = b.tokens;
-  spells = lift (own x) L (stands_reaches L x at) b.spells;
-  leads = subst (λ (t : Bool). Leads true b.tokens (round_unless t (expr_text x))) (sym at) (nothing_more b.leads);
-}
+module _ (deep : Bool) where
+  -- the printed form without brackets around it is read as tokens of its own level
+  pub record Bare (d : ℕ) (x : Expr) : Type 0 where
+    pub tokens : List Token
+    pub spells : IsExpr (limited deep) (own x) d tokens x
+    pub leads : Leads true tokens (expr_text x)
+    pub digit : begins_with_number tokens ≡ true → begins_with_digit x ≡ true
 
-within_brackets : (L : Level) (d : ℕ) (x : Expr) → stands L x ≡ false → has_room every d ≡ true → Bare (suc d) x → Printed L d x
-within_brackets L d x at room b = record {
-  tokens = mark sign.Open ∷ (b.tokens ++ mark sign.Close ∷ []);
-  spells = lift primary L refl (bracket room (lift (own x) sum (reaches_sum (own x)) b.spells));
-  leads = subst (λ (t : Bool). Leads true (mark sign.Open ∷ (b.tokens ++ mark sign.Close ∷ [])) (round_unless t (expr_text x))) (sym at)
-      (joined_by (mark_leads sign.Open) (closed_by b.leads (any_open (mark_leads sign.Close)) (λ rest. apart refl)));
-}
+  -- wherever there is room for it
+  abbrev pub Printable : Expr → Type 0
+  Printable x = (d : ℕ) → Fits deep d (open_in_expr x) → Bare d x
 
-pub printed : (L : Level) (d : ℕ) (x : Expr) → Printable L d x → Printed L d x
-printed L d x h =
-    ⊎_elim (λ at. without_brackets L d x at h.bare)
-    (λ at. ⊎_elim (λ k. absurd (false≢true (sym at ∙ k))) (λ k. within_brackets L d x at k.0 k.1) h.fits) (cases_Bool (stands L x))
+  -- the printed form at a level, in brackets unless the test holds
+  pub record Printed (L : Level) (t : Bool) (d : ℕ) (x : Expr) : Type 0 where
+    pub tokens : List Token
+    pub spells : IsExpr (limited deep) L d tokens x
+    pub leads : Leads true tokens (round_unless t (expr_text x))
+    pub digit : begins_with_number tokens ≡ true → (t && begins_with_digit x) ≡ true
 
--- what stands at a level stands at each looser one
-pub looser : {d : ℕ} {x : Expr} (L M : Level) → (stands L x ≡ true → stands M x ≡ true) → Printable L d x → Printable M d x
-looser L M h p = record { bare = p.bare; fits = ⊎_elim (λ k. inl (h k)) (λ k. inr k) p.fits }
+  -- the printed form at a level where what passes the test stands at it
+  pub printed : (L : Level) (t : Bool) (d : ℕ) (x : Expr) → (t ≡ true → reaches (own x) L ≡ true) → Fits deep d (one_more_unless t (open_in_expr x))
+      → Printable x → Printed L t d x
+  printed L true d x at fits p =
+      let b = p d fits in
+      record { tokens = b.tokens; spells = lift (own x) L (at refl) b.spells; leads = nothing_more b.leads; digit = b.digit }
+  printed L false d x at fits p =
+      let b = p (suc d) (inside deep d (open_in_expr x) fits) in
+      record {
+        tokens = mark sign.Open ∷ (b.tokens ++ mark sign.Close ∷ []);
+        spells = lift primary L refl (bracket (room deep d (open_in_expr x) fits) (lift (own x) sum (reaches_sum (own x)) b.spells));
+        leads = joined_by (mark_leads sign.Open) (closed_by b.leads (any_open (mark_leads sign.Close)) (λ rest. apart refl));
+        digit = λ e. absurd (false≢true e);
+      }
 
-pub lower_bare : (d : ℕ) (x : Expr) → Bare (suc d) x → Bare d x
-lower_bare d x b = record { tokens = b.tokens; spells = fewer_open (suc d) d (omega arith) b.spells; leads = b.leads }
+  pub printed_at : (L : Level) (d : ℕ) (x : Expr) → Fits deep d (one_more_unless (stands L x) (open_in_expr x)) → Printable x → Printed L (stands L x) d x
+  printed_at L d x fits p = printed L (stands L x) d x (stands_reaches L x) fits p
+
+-- a divisor stands as a power and doesn't begin with a digit
+divisor_reaches : (x : Expr) → is_divisor x ≡ true → reaches (own x) power ≡ true
+divisor_reaches x h = stands_reaches power x (and_parts (is_power x) (not (begins_with_digit x)) h).0
+
+never_both : (t s : Bool) → ((t && not s) && s) ≡ true → ⊥
+never_both true true h = false≢true h
+never_both true false h = false≢true h
+never_both false s h = false≢true h
+
+no_digit : (t s n : Bool) → (n ≡ true → ((t && not s) && s) ≡ true) → n ≡ false
+no_digit t s true h = absurd (never_both t s (h refl))
+no_digit t s false h = refl
+
+module _ (deep : Bool) where
+  -- the printed form as a divisor
+  pub printed_divisor : (d : ℕ) (x : Expr) → Fits deep d (one_more_unless (is_divisor x) (open_in_expr x)) → Printable deep x
+      → Printed deep power (is_divisor x) d x
+  printed_divisor d x fits p = printed deep power (is_divisor x) d x (divisor_reaches x) fits p
+
+  pub divisor_first : (d : ℕ) (x : Expr) (p : Printed deep power (is_divisor x) d x) → begins_with_number p.tokens ≡ false
+  divisor_first d x p = no_digit (is_power x) (begins_with_digit x) (begins_with_number p.tokens) p.digit

@@ -15,6 +15,8 @@ pub mod Agreeing
 pub mod Closing
 pub mod Reached
 pub mod Ends
+pub mod SoundPlaces
+pub mod SoundClaims
 pub mod Sound
 pub mod SoundLines
 pub mod Taken
@@ -25,6 +27,7 @@ pub mod OpLaws
 pub mod LowestLaws
 pub mod LeadLaws
 pub mod MeantLaws
+pub mod Opening
 pub mod ExprLevels
 pub mod PrintedExprs
 pub mod ClaimLevels
@@ -33,4 +36,7 @@ pub mod PrintedLines
 pub mod Outcomes
 pub mod PlainLaws
 pub mod PrintedTexts
+pub mod OpenedExprs
+pub mod OpenedClaims
+pub mod PrintedOutcomes
 pub mod FitLaws

@@ -1,15 +1,43 @@
 -- What the tokens behind a state of the machine spell.
-use Rattle.std.proofs.Common.{◌≡◌, ℕ, zero, suc, List, [], ◌∷◌, ◌++◌, map, Option, None, Some, IsTrue}
+use Rattle.std.proofs.Common.{◌≡◌, ℕ, zero, suc, List, [], ◌∷◌, ◌++◌, map, Bool, true, false, Option, None, Some, IsTrue}
 use Rattle.theory_meaning.specs.declared.words.Rel.TheVariants as rel
 use Rattle.theory_meaning.specs.Point.{Name}
 use Rattle.theory_meaning.specs.Tree.{Expr, Claim}
 use Rattle.theory_grammar.specs.declared.words.Keyword.TheVariants as word
 use Rattle.theory_grammar.specs.declared.words.Mark.TheVariants as sign
 use Rattle.theory_grammar.specs.Token.{Token, keyword, name, number, mark, relation}
-use Rattle.theory_grammar.specs.Spelled.{Limits, has_room, IsExpr, IsClaim, AreConjuncts, AreDisjuncts, IsLine}
+use Rattle.theory_grammar.specs.Spelled.{Limits, has_room, Last, bare, tight, loose, last_of, may_divide, IsExpr, IsClaim, AreConjuncts, AreDisjuncts, IsLine}
 use Rattle.theory_grammar.specs.Spelled as rule
-use Rattle.theory_grammar.specs.Machine.{State, Left, alone, plus, minus, Place, ClaimPlace, Heading, assumption, assertion, Context, left_of_equation, right_of_equation, left_of_atom, right_of_atom}
+use Rattle.theory_grammar.specs.Machine.{State, Left, alone, plus, minus, Product, leading, to_multiply, to_divide, Place, ClaimPlace, Heading, assumption, assertion, Context, left_of_equation, right_of_equation, left_of_atom, right_of_atom}
 use Rattle.theory_grammar.specs.Machine as m
+
+-- the last token isn't a number where a factor may begin
+abbrev pub is_bare : Last → Bool
+is_bare bare = true
+is_bare _ = false
+
+-- what stands here is no divisor; a divisor has no sign before it
+abbrev pub NoDivisor : Product → Type 0
+NoDivisor (to_divide x) = ⊥
+NoDivisor _ = Unit {0}
+
+abbrev pub Signless : Product → ℕ → Type 0
+Signless (to_divide x) n = n ≡ zero
+Signless _ n = Unit {0}
+
+-- behind these tokens, which end with `/`, a divisor may be a number, and these tokens may be a divisor
+abbrev pub Dividing : Product → List Token → Type 0
+Dividing (to_divide x) ts = (vs : List Token) → ts ≡ vs ++ mark sign.Over ∷ [] → is_bare (last_of loose vs) ≡ false
+Dividing _ ts = ⊥
+
+abbrev pub Fits : Product → List Token → List Token → Type 0
+Fits (to_divide x) ts us = (vs : List Token) → ts ≡ vs ++ mark sign.Over ∷ [] → IsTrue (may_divide (last_of loose vs) us)
+Fits _ ts us = Unit {0}
+
+-- these tokens of an operand end in no number that a `/` could make a literal of
+abbrev pub Solid : Product → List Token → Type 0
+Solid (to_divide x) us = is_bare (last_of tight us) ≡ false
+Solid _ us = (last : Last) → is_bare (last_of last us) ≡ false
 
 module _ (limits : Limits) where
   -- the left side of a sum with its sign
@@ -18,10 +46,11 @@ module _ (limits : Limits) where
   Sums base (plus x) ts = (us : List Token) × IsExpr limits rule.sum base us x × (ts ≡ us ++ mark sign.Plus ∷ [])
   Sums base (minus x) ts = (us : List Token) × IsExpr limits rule.sum base us x × (ts ≡ us ++ mark sign.Minus ∷ [])
 
-  -- the left side of a product with its sign
-  abbrev pub Products : ℕ → Option Expr → List Token → Type 0
-  Products base None ts = ts ≡ []
-  Products base (Some x) ts = (us : List Token) × IsExpr limits rule.term base us x × (ts ≡ us ++ mark sign.Times ∷ [])
+  -- the left side of a product or quotient with its sign
+  abbrev pub Products : ℕ → Product → List Token → Type 0
+  Products base leading ts = ts ≡ []
+  Products base (to_multiply x) ts = (us : List Token) × IsExpr limits rule.term base us x × (ts ≡ us ++ mark sign.Times ∷ [])
+  Products base (to_divide x) ts = (us : List Token) × IsExpr limits rule.term base us x × (ts ≡ us ++ mark sign.Over ∷ [])
 
   -- signs that stand one before the other, each with room
   abbrev pub Signs : Token → ℕ → ℕ → ℕ → List Token → Type 0
@@ -38,6 +67,7 @@ module _ (limits : Limits) where
     pub around : Outside p.base outside
     pub in_sum : Sums p.base p.sum sums
     pub in_product : Products p.base p.product products
+    pub signless : Signless p.product p.minuses
     pub in_signs : Signs (mark sign.Minus) p.base p.minuses p.depth minuses
 
   -- the left side of an equivalence with its sign
@@ -110,6 +140,7 @@ module _ (limits : Limits) where
     pub parts : before ≡ front ++ own
     pub place : InPlace (Outside o ctx) p front
     pub spelled : IsExpr limits level p.depth own x
+    pub fits : Fits p.product place.products own
 
   -- the tokens behind a term
   pub record BehindTerm (p : Place) (o : List Place) (ctx : Context) (x : Expr) (before : List Token) : Type 0 where
@@ -149,9 +180,10 @@ module _ (limits : Limits) where
   Reached (m.finished line) ts = IsLine limits ts line
   Reached (m.want_claim h q qs) ts = InClaimPlace (ClaimOutside h qs) q ts
   Reached (m.have_claim c h q qs) ts = BehindClaim h q qs c ts
-  Reached (m.operand p o ctx) ts = InPlace (Outside o ctx) p ts
-  Reached (m.integer n p o ctx) ts = (us : List Token) × InPlace (Outside o ctx) p us × (ts ≡ us ++ number n ∷ [])
-  Reached (m.closed x p o ctx) ts = Behind rule.primary p o ctx x ts
+  Reached (m.operand p o ctx) ts = InPlace (Outside o ctx) p ts × NoDivisor p.product
+  Reached (m.integer n p o ctx) ts = (us : List Token) × InPlace (Outside o ctx) p us × NoDivisor p.product × (ts ≡ us ++ number n ∷ [])
+  Reached (m.closed x p o ctx) ts = (b : Behind rule.primary p o ctx x ts) × Solid p.product b.own
   Reached (m.exponent x p o ctx) ts = (us : List Token) × Behind rule.primary p o ctx x us × (ts ≡ us ++ mark sign.Power ∷ [])
-  Reached (m.below n p o ctx) ts = (us : List Token) × InPlace (Outside o ctx) p us × (ts ≡ us ++ number n ∷ mark sign.Over ∷ [])
-  Reached (m.term x p o ctx) ts = BehindTerm p o ctx x ts
+  Reached (m.below n p o ctx) ts = (us : List Token) × InPlace (Outside o ctx) p us × NoDivisor p.product × (ts ≡ us ++ number n ∷ mark sign.Over ∷ [])
+  Reached (m.divisor p o ctx) ts = (b : InPlace (Outside o ctx) p ts) × Dividing p.product b.products
+  Reached (m.term x p o ctx) ts = (b : BehindTerm p o ctx x ts) × (is_bare (last_of loose b.own) ≡ false)

@@ -17,6 +17,8 @@ use Rattle.theory_grammar.proofs.Reached.{Outside, BehindTerm, BehindClaim, Head
 use Rattle.theory_grammar.proofs.Ends as ends
 use Rattle.theory_grammar.proofs.Ends.{BehindExpr}
 use Rattle.theory_grammar.proofs.Sound as sound
+use Rattle.theory_grammar.proofs.SoundClaims as claims
+use Rattle.theory_grammar.proofs.SoundPlaces as places
 
 module _ (limits : Limits) where
   as_line : (ts us : List Token) (line : Line) → ts ≡ us → IsLine limits us line → IsLine limits ts line
@@ -48,8 +50,8 @@ module _ (limits : Limits) where
       → Goes (Reached limits) (before ++ t ∷ []) (m.at_by label t)
   sound_by label (keyword word.By) before b = then before _ (keyword word.By) b
   sound_by label t before b =
-      sound.sound_colon limits (m.claim_of_line (assertion label None)) t before
-      (sound.heads_claim limits (assertion label None) (before ++ mark sign.Colon ∷ []) (then before _ (mark sign.Colon) b))
+      places.sound_colon limits (m.claim_of_line (assertion label None)) t before
+      (places.heads_claim limits (assertion label None) (before ++ mark sign.Colon ∷ []) (then before _ (mark sign.Colon) b))
 
   sound_start : (t : Token) (before : List Token) → before ≡ [] → Goes (Reached limits) (before ++ t ∷ []) (m.at_start t)
   sound_start (keyword word.Model) before b = then before _ (keyword word.Model) b
@@ -65,35 +67,36 @@ module _ (limits : Limits) where
   pub goes : (st : State) (t : Token) (before : List Token) → Reached limits st before → Goes (Reached limits) (before ++ t ∷ []) (step limits st t)
   goes m.start t before b = sound_start t before b
   goes m.name_of_model t before b =
-      sound.sound_name limits (λ x. m.finished (plain.model x)) t before (λ x. as_line _ _ _ (then before _ (name x) b) rule.model_line)
+      places.sound_name limits (λ x. m.finished (plain.model x)) t before (λ x. as_line _ _ _ (then before _ (name x) b) rule.model_line)
   goes m.name_of_var t before b =
-      sound.sound_name limits (λ x. m.finished (plain.var x)) t before (λ x. as_line _ _ _ (then before _ (name x) b) rule.var_line)
+      places.sound_name limits (λ x. m.finished (plain.var x)) t before (λ x. as_line _ _ _ (then before _ (name x) b) rule.var_line)
   goes m.name_of_param t before b =
-      sound.sound_name limits (λ x. m.finished (plain.param x)) t before (λ x. as_line _ _ _ (then before _ (name x) b) rule.param_line)
-  goes m.name_of_function t before b = sound.sound_name limits m.word_of t before (λ x. then before _ (name x) b)
+      places.sound_name limits (λ x. m.finished (plain.param x)) t before (λ x. as_line _ _ _ (then before _ (name x) b) rule.param_line)
+  goes m.name_of_function t before b = places.sound_name limits m.word_of t before (λ x. then before _ (name x) b)
   goes (m.word_of f) t before b = sound_of f t before b
-  goes (m.first_argument f) t before b = sound.sound_name limits (λ x. m.arguments f (x ∷ [])) t before (λ x. (x, [], refl, then before _ (name x) b))
-  goes (m.arguments f xs) t before b = sound.sound_name limits (λ x. m.arguments f (xs ++ x ∷ [])) t before (λ x. more_arguments f x xs before b)
-  goes m.label_of_equation t before b = sound.sound_name limits m.colon_of_equation t before (λ x. then before _ (name x) b)
+  goes (m.first_argument f) t before b = places.sound_name limits (λ x. m.arguments f (x ∷ [])) t before (λ x. (x, [], refl, then before _ (name x) b))
+  goes (m.arguments f xs) t before b = places.sound_name limits (λ x. m.arguments f (xs ++ x ∷ [])) t before (λ x. more_arguments f x xs before b)
+  goes m.label_of_equation t before b = places.sound_name limits m.colon_of_equation t before (λ x. then before _ (name x) b)
   goes (m.colon_of_equation label) t before b =
-      sound.sound_colon limits (m.operand (m.fresh 0) [] (left_of_equation label)) t before
-      (sound.starts limits (Outside limits [] (left_of_equation label)) 0 (before ++ mark sign.Colon ∷ []) (refl, then before _ (mark sign.Colon) b))
+      places.sound_colon limits (m.operand (m.fresh 0) [] (left_of_equation label)) t before
+      (places.starts limits (Outside limits [] (left_of_equation label)) 0 (before ++ mark sign.Colon ∷ []) (refl, then before _ (mark sign.Colon) b))
   goes m.label_of_assumption t before b =
-      sound.sound_name limits (λ x. m.colon (assumption x)) t before (λ x. then _ _ (mark sign.Colon) (then before _ (name x) b))
-  goes m.label_of_claim t before b = sound.sound_name limits m.by_or_colon t before (λ x. then before _ (name x) b)
+      places.sound_name limits (λ x. m.colon (assumption x)) t before (λ x. then _ _ (mark sign.Colon) (then before _ (name x) b))
+  goes m.label_of_claim t before b = places.sound_name limits m.by_or_colon t before (λ x. then before _ (name x) b)
   goes (m.by_or_colon label) t before b = sound_by label t before b
   goes (m.name_of_shift label) t before b =
-      sound.sound_name limits (λ x. m.colon (assertion label (Some x))) t before (λ x. then _ _ (mark sign.Colon) (then before _ (name x) b))
-  goes (m.colon h) t before b = sound.sound_colon limits (m.claim_of_line h) t before (sound.heads_claim limits h (before ++ mark sign.Colon ∷ []) b)
+      places.sound_name limits (λ x. m.colon (assertion label (Some x))) t before (λ x. then _ _ (mark sign.Colon) (then before _ (name x) b))
+  goes (m.colon h) t before b = places.sound_colon limits (m.claim_of_line h) t before (places.heads_claim limits h (before ++ mark sign.Colon ∷ []) b)
   goes (m.finished line) t before b = tt
   goes (m.want_claim h q qs) t before b = sound.sound_want limits h q qs t before b
-  goes (m.have_claim c h q qs) t before b = sound.sound_claim limits c h q qs t before b
+  goes (m.have_claim c h q qs) t before b = claims.sound_claim limits c h q qs t before b
   goes (m.operand p o ctx) t before b = sound.sound_operand limits p o ctx t before b
   goes (m.integer n p o ctx) t before b = sound.sound_integer limits n p o ctx t before b
-  goes (m.closed x p o ctx) t before b = sound.sound_closed limits x p o ctx t before b
+  goes (m.closed x p o ctx) t before b = sound.after_closed limits x p o ctx t before b
   goes (m.exponent x p o ctx) t before b = sound.sound_exponent limits x p o ctx t before b
   goes (m.below n p o ctx) t before b = sound.sound_below limits n p o ctx t before b
-  goes (m.term x p o ctx) t before b = sound.sound_term limits x p o ctx t before b
+  goes (m.divisor p o ctx) t before b = sound.after_over limits p o ctx t before b
+  goes (m.term x p o ctx) t before b = sound.after_term limits x p o ctx t before b
 
   -- the line that ends here, if one does, is spelled
   abbrev EndsWell : List Token → Option Line → Type 0
@@ -123,7 +126,7 @@ module _ (limits : Limits) where
       let right : IsExpr limits rule.sum 0 b.own y = subst (λ (k : ℕ). IsExpr limits rule.sum k b.own y) b.around.2 b.spelled in
       as_line before _ _ (b.parts ∙ ap (λ (ts : List Token). ts ++ b.own) b.around.3 ∙ simp append_assoc) (rule.equation_line b.around.1 right)
   expr_ends x [] (left_of_atom h q qs) d before b = tt
-  expr_ends y [] (right_of_atom x r h q qs) d before b = claim_ends (plain.atom x r y) h q qs before (sound.compared limits x y r h q qs d before b)
+  expr_ends y [] (right_of_atom x r h q qs) d before b = claim_ends (plain.atom x r y) h q qs before (claims.compared limits x y r h q qs d before b)
   expr_ends x (p ∷ o) ctx d before b = tt
 
   term_ends : (x : Expr) (p : Place) (o : List Place) (ctx : Context) (before : List Token) → BehindTerm limits p o ctx x before
@@ -140,8 +143,8 @@ module _ (limits : Limits) where
       term_ends (m.settled p (plain.number (whole (pos n)))) (m.reset p) o ctx before (ends.factored limits p o ctx _ before
       (sound.one_power limits p o ctx _ before (sound.integer_closed limits n p o ctx before b)))
   well (m.closed x p o ctx) before b =
-      term_ends (m.settled p x) (m.reset p) o ctx before (ends.factored limits p o ctx x before (sound.one_power limits p o ctx x before b))
-  well (m.term x p o ctx) before b = term_ends x p o ctx before b
+      term_ends (m.settled p x) (m.reset p) o ctx before (ends.factored limits p o ctx x before (sound.one_power limits p o ctx x before b.0))
+  well (m.term x p o ctx) before b = term_ends x p o ctx before b.0
   well _ before b = tt
 
   pub ends_well : (st : State) (before : List Token) (line : Line) → Reached limits st before → ended st ≡ Some line → IsLine limits before line

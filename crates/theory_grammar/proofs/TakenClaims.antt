@@ -97,6 +97,7 @@ module _ (limits : Limits) where
   is_first (rule.negated room u) = tt
   is_first (rule.one_factor u) = is_first u
   is_first (rule.times {ts = ts} u v) = first_of_more ts _ (is_first u)
+  is_first (rule.divided {ts = ts} fits u v) = first_of_more ts _ (is_first u)
   is_first (rule.one_term u) = is_first u
   is_first (rule.plus {ts = ts} u v) = first_of_more ts _ (is_first u)
   is_first (rule.minus {ts = ts} u v) = first_of_more ts _ (is_first u)

@@ -6,8 +6,12 @@ pub mod Runs
 pub mod Spelled
 pub mod LineFault
 pub mod Printed
+pub mod Opened
 pub mod TextFault
 pub mod OneLine
 pub mod RoundTrip
 pub mod Texts
+pub mod Places
+pub mod ClaimPlaces
 pub mod Machine
+pub mod Worked

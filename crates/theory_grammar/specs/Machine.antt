@@ -1,6 +1,6 @@
 -- A machine that reads the tokens of a line one by one. The laws of the grammar are proved by it, and functions that no other
 -- crate calls are told by it; no public clause rests on it.
-use Rattle.std.specs.Prelude.{ℕ, zero, suc, pos, Bool, true, false, List, [], ◌∷◌, ◌++◌, Option, None, Some, Result, Ok, Err}
+use Rattle.std.specs.Prelude.{ℕ, suc, pos, Bool, true, false, List, [], ◌∷◌, ◌++◌, Option, None, Some, Result, Ok, Err}
 use Rattle.theory_meaning.specs.declared.words.Rel.{Rel}
 use Rattle.theory_meaning.specs.declared.words.Rel.TheVariants as rel
 use Rattle.theory_meaning.specs.Fraction.{whole}
@@ -12,31 +12,9 @@ use Rattle.theory_grammar.specs.declared.words.Mark.TheVariants as sign
 use Rattle.theory_grammar.specs.declared.words.LineFaultKind.{LineFaultKind}
 use Rattle.theory_grammar.specs.declared.words.LineFaultKind.TheVariants.{Unexpected, ZeroBelow, Exponent, Deep}
 use Rattle.theory_grammar.specs.Token.{Token, keyword, name, dotted, number, mark, relation}
-use Rattle.theory_grammar.specs.Spelled.{Limits, has_room, is_exponent, is_below, lowest, conjunction_of, disjunction_of}
-
--- the left side of a sum or difference, if any
-pub data Left : Type 0 where
-  alone : Left
-  plus : Expr → Left
-  minus : Expr → Left
-
--- what stands before an operand in its brackets: sum, product, prefix signs, and signs open outside and in all
-pub record Place : Type 0 where
-  pub sum : Left
-  pub product : Option Expr
-  pub minuses : ℕ
-  pub base : ℕ
-  pub depth : ℕ
-
--- what stands before a claim in its brackets; the last premise comes first
-pub record ClaimPlace : Type 0 where
-  pub other : Option Claim
-  pub premises : List Claim
-  pub disjuncts : List Claim
-  pub conjuncts : List Claim
-  pub nots : ℕ
-  pub base : ℕ
-  pub depth : ℕ
+use Rattle.theory_grammar.specs.Spelled.{Limits, has_room, is_exponent, is_below, lowest}
+pub use Rattle.theory_grammar.specs.Places.{Left, alone, plus, minus, Product, leading, to_multiply, to_divide, Place, fresh, opposed, reset, times, over, behind, opposites, multiplied, joined, settled}
+pub use Rattle.theory_grammar.specs.ClaimPlaces.{ClaimPlace, fresh_claim, denied, negations, all_conjuncts, all_disjuncts, premise, implied, side, paired, whole_claim, behind_and, behind_or, behind_implies, behind_iff}
 
 -- the line that a claim is a part of
 pub data Heading : Type 0 where
@@ -75,6 +53,7 @@ pub data State : Type 0 where
   closed : Expr → Place → List Place → Context → State
   exponent : Expr → Place → List Place → Context → State
   below : ℕ → Place → List Place → Context → State
+  divisor : Place → List Place → Context → State
   term : Expr → Place → List Place → Context → State
 
 -- a state, or why there is none
@@ -86,96 +65,16 @@ abbrev pub gate : Bool → LineFaultKind → State → Move
 gate true kind st = Ok st
 gate false kind st = Err kind
 
+-- no line goes on so
 abbrev pub unexpected : Move
 unexpected = Err Unexpected
 
--- a place with nothing before it, behind d open signs
-abbrev pub fresh : ℕ → Place
-fresh d = record { sum = alone; product = None; minuses = 0; base = d; depth = d }
-
-abbrev pub fresh_claim : ℕ → ClaimPlace
-fresh_claim d = record { other = None; premises = []; disjuncts = []; conjuncts = []; nots = 0; base = d; depth = d }
-
--- the place behind a prefix minus, behind a factor, and behind a sign of a sum
-abbrev pub opposed : Place → Place
-opposed p = record p { minuses = suc p.minuses; depth = suc p.depth }
-
-abbrev pub reset : Place → Place
-reset p = record p { product = None; minuses = 0; depth = p.base }
-
-abbrev pub times : Expr → Place → Place
-times x p = record (reset p) { product = Some x }
-
-abbrev pub behind : Left → Place → Place
-behind left p = record (fresh p.base) { sum = left }
-
--- the expressions that end with this operand
-abbrev pub opposites : ℕ → Expr → Expr
-opposites zero x = x
-opposites (suc m) x = opposites m (plain.opposite x)
-
-abbrev pub multiplied : Option Expr → Expr → Expr
-multiplied None y = y
-multiplied (Some x) y = plain.product x y
-
-abbrev pub joined : Left → Expr → Expr
-joined alone y = y
-joined (plus x) y = plain.sum x y
-joined (minus x) y = plain.difference x y
-
--- the term that ends with this factor
-abbrev pub settled : Place → Expr → Expr
-settled p x = multiplied p.product (opposites p.minuses x)
-
--- the place behind a `not`, and behind a connective
-abbrev pub denied : ClaimPlace → ClaimPlace
-denied q = record q { nots = suc q.nots; depth = suc q.depth }
-
-abbrev pub negations : ℕ → Claim → Claim
-negations zero c = c
-negations (suc m) c = negations m (plain.negation c)
-
--- the conjuncts, the disjuncts, the premise, the side and the whole claim that end with this one
-abbrev pub all_conjuncts : ClaimPlace → Claim → List Claim
-all_conjuncts q c = q.conjuncts ++ negations q.nots c ∷ []
-
-abbrev pub all_disjuncts : ClaimPlace → Claim → List Claim
-all_disjuncts q c = q.disjuncts ++ conjunction_of (all_conjuncts q c) ∷ []
-
-abbrev pub premise : ClaimPlace → Claim → Claim
-premise q c = disjunction_of (all_disjuncts q c)
-
-abbrev pub implied : List Claim → Claim → Claim
-implied [] c = c
-implied (b ∷ bs) c = implied bs (plain.implication b c)
-
-abbrev pub side : ClaimPlace → Claim → Claim
-side q c = implied q.premises (premise q c)
-
-abbrev pub paired : Option Claim → Claim → Claim
-paired None c = c
-paired (Some b) c = plain.equivalence b c
-
-abbrev pub whole_claim : ClaimPlace → Claim → Claim
-whole_claim q c = paired q.other (side q c)
-
-abbrev pub behind_and : ClaimPlace → Claim → ClaimPlace
-behind_and q c = record q { conjuncts = all_conjuncts q c; nots = 0; depth = q.base }
-
-abbrev pub behind_or : ClaimPlace → Claim → ClaimPlace
-behind_or q c = record q { disjuncts = all_disjuncts q c; conjuncts = []; nots = 0; depth = q.base }
-
-abbrev pub behind_implies : ClaimPlace → Claim → ClaimPlace
-behind_implies q c = record (fresh_claim q.base) { other = q.other; premises = premise q c ∷ q.premises }
-
-abbrev pub behind_iff : ClaimPlace → Claim → ClaimPlace
-behind_iff q c = record (fresh_claim q.base) { other = Some (side q c) }
-
--- a claim in brackets goes on where there is one place more, and an `iff` where there was none
+-- a claim in brackets goes on where there is one place more
 abbrev pub close_claim : Claim → Heading → List ClaimPlace → Move
 close_claim c h [] = unexpected
 close_claim c h (q ∷ qs) = Ok (have_claim c h q qs)
 
+-- an `iff` goes on where there was none
 abbrev pub second_side : Option Claim → State → Move
 second_side None st = Ok st
 second_side (Some b) st = unexpected
@@ -194,11 +93,12 @@ abbrev pub equation_sign : Name → Expr → Rel → Move
 equation_sign label x rel.Eq = Ok (operand (fresh 0) [] (right_of_equation label x))
 equation_sign label x _ = unexpected
 
--- what follows the left side of an equation and of a comparison
+-- what follows the left side of an equation
 abbrev pub after_left : Name → Expr → Token → Move
 after_left label x (relation r) = equation_sign label x r
 after_left label x _ = unexpected
 
+-- what follows the left side of a comparison
 abbrev pub after_compared : Expr → Heading → ClaimPlace → List ClaimPlace → Token → Move
 after_compared x h q qs (relation r) = Ok (operand (fresh q.depth) [] (right_of_atom x r h q qs))
 after_compared x h q qs _ = unexpected
@@ -219,6 +119,7 @@ close_expr x _ (p ∷ o) ctx = unexpected
 -- what follows a term
 abbrev pub after_term : Expr → Place → List Place → Context → Token → Move
 after_term x p o ctx (mark sign.Times) = Ok (operand (times x p) o ctx)
+after_term x p o ctx (mark sign.Over) = Ok (divisor (over x p) o ctx)
 after_term x p o ctx (mark sign.Plus) = Ok (operand (behind (plus (joined p.sum x)) p) o ctx)
 after_term x p o ctx (mark sign.Minus) = Ok (operand (behind (minus (joined p.sum x)) p) o ctx)
 after_term x p o ctx t = close_expr (joined p.sum x) t o ctx
@@ -227,22 +128,35 @@ after_term x p o ctx t = close_expr (joined p.sum x) t o ctx
 abbrev pub factored : Expr → Place → List Place → Context → State
 factored x p o ctx = term (settled p x) (reset p) o ctx
 
+-- what follows a primary
 abbrev pub after_closed : Expr → Place → List Place → Context → Token → Move
 after_closed x p o ctx (mark sign.Power) = Ok (exponent x p o ctx)
 after_closed x p o ctx t = after_term (settled p x) (reset p) o ctx t
 
+-- what follows a number where a factor may begin
 abbrev pub after_integer : ℕ → Place → List Place → Context → Token → Move
 after_integer n p o ctx (mark sign.Over) = Ok (below n p o ctx)
 after_integer n p o ctx t = after_closed (plain.number (whole (pos n))) p o ctx t
 
+-- what follows `^`
 abbrev pub at_exponent : Limits → Expr → Place → List Place → Context → Token → Move
 at_exponent limits x p o ctx (number k) = gate (is_exponent limits k) Exponent (factored (plain.power x k) p o ctx)
 at_exponent limits x p o ctx _ = unexpected
 
+-- the first token of a divisor, a number also where it ends no literal
+abbrev pub at_divisor : Limits → Place → List Place → Context → Token → Move
+at_divisor limits p o ctx (mark sign.Open) = gate (has_room limits p.depth) Deep (operand (fresh (suc p.depth)) (p ∷ o) ctx)
+at_divisor limits p o ctx (number n) = Ok (closed (plain.number (whole (pos n))) p o ctx)
+at_divisor limits p o ctx (name x) = Ok (closed (plain.symbol x) p o ctx)
+at_divisor limits p o ctx (dotted x) = Ok (closed (plain.symbol x) p o ctx)
+at_divisor limits p o ctx _ = unexpected
+
+-- behind a number and `/`: the second number of a literal, or a divisor of the term that ends with the number
 abbrev pub at_below : Limits → ℕ → Place → List Place → Context → Token → Move
 at_below limits m p o ctx (number n) = gate (is_below limits n) ZeroBelow (factored (plain.number (lowest m n)) p o ctx)
-at_below limits m p o ctx _ = unexpected
+at_below limits m p o ctx t = at_divisor limits (over (settled p (plain.number (whole (pos m)))) p) o ctx t
 
+-- the first token of a factor
 abbrev pub at_operand : Limits → Place → List Place → Context → Token → Move
 at_operand limits p o ctx (mark sign.Minus) = gate (has_room limits p.depth) Deep (operand (opposed p) o ctx)
 at_operand limits p o ctx (mark sign.Open) = gate (has_room limits p.depth) Deep (operand (fresh (suc p.depth)) (p ∷ o) ctx)
@@ -270,22 +184,26 @@ at_start (keyword word.Assume) = Ok label_of_assumption
 at_start (keyword word.Claim) = Ok label_of_claim
 at_start _ = unexpected
 
--- a name that is wanted, a colon, and the words of some lines
+-- a name that is wanted
 abbrev pub at_name : (Name → State) → Token → Move
 at_name next (name x) = Ok (next x)
 at_name next _ = unexpected
 
+-- a colon that is wanted
 abbrev pub at_colon : State → Token → Move
 at_colon next (mark sign.Colon) = Ok next
 at_colon next _ = unexpected
 
+-- the word behind the name of a function
 abbrev pub at_of : Name → Token → Move
 at_of f (keyword word.Of) = Ok (first_argument f)
 at_of f _ = unexpected
 
+-- the claim of a line is to begin
 abbrev pub claim_of_line : Heading → State
 claim_of_line h = want_claim h (fresh_claim 0) []
 
+-- what follows the label of a claim
 abbrev pub at_by : Name → Token → Move
 at_by label (keyword word.By) = Ok (name_of_shift label)
 at_by label t = at_colon (claim_of_line (assertion label None)) t
@@ -315,6 +233,7 @@ step limits (integer n p o ctx) t = after_integer n p o ctx t
 step limits (closed x p o ctx) t = after_closed x p o ctx t
 step limits (exponent x p o ctx) t = at_exponent limits x p o ctx t
 step limits (below n p o ctx) t = at_below limits n p o ctx t
+step limits (divisor p o ctx) t = at_divisor limits p o ctx t
 step limits (term x p o ctx) t = after_term x p o ctx t
 
 -- the line of a claim
@@ -322,16 +241,18 @@ abbrev pub line_with : Heading → Claim → Line
 line_with (assumption label) c = plain.assume label c
 line_with (assertion label shift) c = plain.claim label shift c
 
--- the line that ends here, if one does
+-- the line that ends with this claim, if one does
 abbrev pub claim_ended : Claim → Heading → List ClaimPlace → Option Line
 claim_ended c h [] = Some (line_with h c)
 claim_ended c h (q ∷ qs) = None
 
+-- the line that ends with this expression, if one does
 abbrev pub expr_ended : Expr → List Place → Context → Option Line
 expr_ended y [] (right_of_equation label x) = Some (plain.equation label x y)
 expr_ended y [] (right_of_atom x r h q qs) = claim_ended (whole_claim q (plain.atom x r y)) h qs
 expr_ended y _ _ = None
 
+-- the line that ends in this state, if one does
 abbrev pub ended : State → Option Line
 ended (arguments f xs) = Some (plain.function f xs)
 ended (finished line) = Some line

@@ -1,10 +1,10 @@
 -- The printed forms of fractions, expressions, claims, lines and edits. docs/MODEL_TEXT.md has them in words.
-use Rattle.std.specs.Prelude.{ℕ, pos, Bool, true, false, not, ◌&&◌, ◌==◌, int_lt, nat_lt, List, [], ◌∷◌, ◌++◌, Option, None, Some, codes, decimal}
+use Rattle.std.specs.Prelude.{ℕ, pos, Bool, true, false, not, ◌&&◌, ◌==◌, int_lt, List, [], ◌∷◌, ◌++◌, Option, None, Some, codes, decimal}
 use Rattle.theory_meaning.specs.declared.words.Rel.{Rel}
 use Rattle.theory_meaning.specs.declared.words.Rel.TheVariants.{Eq}
 use Rattle.theory_meaning.specs.Point.{Name}
 use Rattle.theory_meaning.specs.Printed.{fraction_text}
-use Rattle.theory_meaning.specs.Tree.{Expr, number, symbol, sum, difference, opposite, product, power, quotient, Claim, always, never, atom, negation, conjunction, disjunction, implication, equivalence, Claims, none, more, Line, model, var, param, function, equation, assume, claim}
+use Rattle.theory_meaning.specs.Tree.{Expr, number, symbol, sum, difference, opposite, product, quotient, power, Claim, always, never, atom, negation, conjunction, disjunction, implication, equivalence, Claims, none, more, Line, model, var, param, function, equation, assume, claim}
 use Rattle.theory_meaning.specs.Text.{Op, put_line, drop_key}
 use Rattle.theory_grammar.specs.Signs.{relation_bytes}
 
@@ -39,21 +39,27 @@ is_primary (number q) = (q.less == 0) && not (int_lt q.num (pos 0))
 is_primary (symbol name) = true
 is_primary _ = false
 
--- one that stands as a power
+-- one that stands as a power: a primary, or a power
 abbrev pub is_power : Expr → Bool
 is_power (power u k) = true
 is_power e = is_primary e
 
--- text that begins with a digit
-abbrev pub has_digit_first : List ℕ → Bool
-has_digit_first [] = false
-has_digit_first (b ∷ bs) = nat_lt 47 b && nat_lt b 58
+-- whether the printed form of an expression begins with a digit
+abbrev pub begins_with_digit : Expr → Bool
+begins_with_digit (number q) = not (int_lt q.num (pos 0))
+begins_with_digit (symbol name) = false
+begins_with_digit (sum u v) = begins_with_digit u
+begins_with_digit (difference u v) = begins_with_digit u
+begins_with_digit (opposite u) = false
+begins_with_digit (product u v) = is_term u && begins_with_digit u
+begins_with_digit (quotient u v) = is_term u && begins_with_digit u
+begins_with_digit (power u k) = is_primary u && begins_with_digit u
 
--- one that stands as a divisor: at the level of a power, and no digit first, since that would read as a fraction
-abbrev pub is_divisor : Expr → List ℕ → Bool
-is_divisor e text = is_power e && not (has_digit_first text)
+-- one that stands as a divisor: a power that doesn't begin with a digit
+abbrev pub is_divisor : Expr → Bool
+is_divisor e = is_power e && not (begins_with_digit e)
 
--- an expression, with brackets only where the grammar needs them for the same tree
+-- an expression, with brackets only where the grammar needs them for the same tree, and around a divisor that begins with a digit
 abbrev pub expr_text : Expr → List ℕ
 expr_text (number q) = fraction_text q
 expr_text (symbol name) = name
@@ -61,8 +67,8 @@ expr_text (sum u v) = expr_text u ++ codes " + " ++ round_unless (is_term v) (ex
 expr_text (difference u v) = expr_text u ++ codes " - " ++ round_unless (is_term v) (expr_text v)
 expr_text (opposite u) = codes "-" ++ round_unless (is_factor u) (expr_text u)
 expr_text (product u v) = round_unless (is_term u) (expr_text u) ++ codes "*" ++ round_unless (is_factor v) (expr_text v)
+expr_text (quotient u v) = round_unless (is_term u) (expr_text u) ++ codes "/" ++ round_unless (is_divisor v) (expr_text v)
 expr_text (power u k) = round_unless (is_primary u) (expr_text u) ++ codes "^" ++ decimal k
-expr_text (quotient u v) = round_unless (is_term u) (expr_text u) ++ codes "/" ++ round_unless (is_divisor v (expr_text v)) (expr_text v)
 
 -- two sides with a relation between them
 abbrev pub sides_text : Expr → Rel → Expr → List ℕ

@@ -22,6 +22,10 @@ pub record Limits : Type 0 where
 abbrev pub every : Limits
 every = record { depth = true; exponent = true; below = true }
 
+-- each limit counts but that of open signs
+abbrev pub any_depth : Limits
+any_depth = record every { depth = false }
+
 -- no limit counts
 abbrev pub unlimited : Limits
 unlimited = record { depth = false; exponent = false; below = false }
@@ -57,6 +61,44 @@ pub record IsLowest (n d : ℕ) (q : Fraction) : Type 0 where
   pub same : q.num *ℤ pos d ≡ pos n *ℤ pos (den q)
   pub reduced : IsReduced q
 
+-- what stands last among tokens: a number where a factor may begin, `^` or `/`, or something else
+pub data Last : Type 0 where
+  bare : Last
+  tight : Last
+  loose : Last
+
+-- a number behind `^` or `/` begins no factor
+abbrev pub number_behind : Last → Last
+number_behind tight = loose
+number_behind _ = bare
+
+-- the last one with one token more
+abbrev pub last_behind : Last → Token → Last
+last_behind last (number n) = number_behind last
+last_behind last (mark sign.Over) = tight
+last_behind last (mark sign.Power) = tight
+last_behind last _ = loose
+
+-- and with further tokens
+abbrev pub last_of : Last → List Token → Last
+last_of last [] = last
+last_of last (t ∷ ts) = last_of (last_behind last t) ts
+
+-- the token is a number
+abbrev pub is_number : Token → Bool
+is_number (number n) = true
+is_number _ = false
+
+-- the first of the tokens is a number
+abbrev pub begins_with_number : List Token → Bool
+begins_with_number [] = false
+begins_with_number (t ∷ ts) = is_number t
+
+-- behind this last token and `/` these tokens may be a divisor: not a number where that ends a literal
+abbrev pub may_divide : Last → List Token → Bool
+may_divide bare ts = not (begins_with_number ts)
+may_divide _ ts = true
+
 -- the levels of expressions
 pub data Level : Type 0 where
   sum : Level
@@ -65,7 +107,8 @@ pub data Level : Type 0 where
   power : Level
   primary : Level
 
--- behind d open signs the tokens spell an expression of this level
+-- behind d open signs the tokens spell an expression of this level; all rules but `divided` are those of texts in which nothing divides,
+-- so that what such a text spelled before it spells still
 pub data IsExpr (limits : Limits) : Level → ℕ → List Token → Expr → Type 0 where
   whole_number : {d n : ℕ} → IsExpr limits primary d (number n ∷ []) (plain.number (whole (pos n)))
   identifier : {d : ℕ} {x : Name} → IsExpr limits primary d (name x ∷ []) (plain.symbol x)
@@ -84,6 +127,8 @@ pub data IsExpr (limits : Limits) : Level → ℕ → List Token → Expr → Ty
   one_factor : {d : ℕ} {ts : List Token} {x : Expr} → IsExpr limits factor d ts x → IsExpr limits term d ts x
   times : {d : ℕ} {ts us : List Token} {x y : Expr} → IsExpr limits term d ts x → IsExpr limits factor d us y
       → IsExpr limits term d (ts ++ mark sign.Times ∷ us) (plain.product x y)
+  divided : {d : ℕ} {ts us : List Token} {x y : Expr} → IsTrue (may_divide (last_of loose ts) us) → IsExpr limits term d ts x
+      → IsExpr limits power d us y → IsExpr limits term d (ts ++ mark sign.Over ∷ us) (plain.quotient x y)
   one_term : {d : ℕ} {ts : List Token} {x : Expr} → IsExpr limits term d ts x → IsExpr limits sum d ts x
   plus : {d : ℕ} {ts us : List Token} {x y : Expr} → IsExpr limits sum d ts x → IsExpr limits term d us y
       → IsExpr limits sum d (ts ++ mark sign.Plus ∷ us) (plain.sum x y)

@@ -1,5 +1,5 @@
 -- Tokens behind fit ones are fit.
-use Rattle.std.proofs.Common.{◌≡◌, ℕ, ◌≤◌, List, ◌∷◌, All, ap, subst, ◌∙◌}
+use Rattle.std.proofs.Common.{◌≡◌, ℕ, ◌≤◌, List, ◌∷◌, All, refl, ap, subst, ◌∙◌}
 use Rattle.std.proofs.lemmas.List.Elements.{All-head, All-rest}
 use Rattle.theory_meaning.specs.Limits.{bound}
 use Rattle.theory_grammar.specs.Token as plain
@@ -23,3 +23,9 @@ fit_number n ts us is fit = All-head IsFit (plain.number n) ts (subst (λ vs. Al
 pub fit_first : (n : ℕ) (t : Token) (ts us : List Token) → t ≡ Number n → us ≡ t ∷ ts → All IsFit (plain_tokens us) → n ≤ bound
 fit_first n t ts us number is fit =
     fit_number n (plain_tokens ts) (plain_tokens us) (ap plain_tokens (is ∙ ap (λ (x : Token). x ∷ ts) number)) fit
+
+-- the second number of a literal is within that bound, and what stands behind it is fit
+pub fit_literal : (t u : plain.Token) (n : ℕ) (ts us : List plain.Token) → us ≡ t ∷ u ∷ plain.number n ∷ ts → All IsFit us → (n ≤ bound) × All IsFit ts
+fit_literal t u n ts us is fit =
+    let below = fit_behind u (plain.number n ∷ ts) (u ∷ plain.number n ∷ ts) refl (fit_behind t (u ∷ plain.number n ∷ ts) us is fit) in
+    (fit_number n ts (plain.number n ∷ ts) refl below, fit_behind (plain.number n) ts (plain.number n ∷ ts) refl below)

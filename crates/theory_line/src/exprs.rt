@@ -3,14 +3,15 @@ ghost use Rattle.theory_grammar.specs.Scan.{IsFit};
 ghost use Rattle.theory_grammar.specs.Machine.{Place, Context, fresh, operand};
 ghost use Rattle.theory_line.specs.Reading.{LeavesFit, Parses, reading};
 ghost use Rattle.theory_line.specs.Behind.{behind_expr};
-ghost use Rattle.theory_line.specs.Exprs.{NeedsPrimary, ParsesTerm, ParsesFactor, ParsesOpposite, ParsesPrimary, ParsesBracketed};
+ghost use Rattle.theory_line.specs.Exprs.{ParsesTerm, ParsesNext, ParsesFactor, ParsesOpposite, ParsesDivisor, ParsesPrimary, ParsesBracketed};
 ghost use Rattle.theory_syntax.specs.Plain.{expr_of};
 ghost use Rattle.theory_tokens.specs.Plain.{plain_tokens};
 
 use crate::fault::ParseFault;
-use crate::front::{behind_mark, front, sum_sign, upper_number};
+use crate::front::{Multiplication, behind_mark, front, literal, product_sign, sum_sign};
 use crate::literals::{fraction, raised, whole_number};
-use crate::nodes::{opposite, product, sum, symbol};
+use crate::nodes::symbol;
+use crate::parts::{closed, opposite, product, sum};
 use std::alloc::Global;
 use theory_grammar::{LineFaultKind, Mark};
 use theory_syntax::Expr;
@@ -35,8 +36,9 @@ pub fn expr<'a>(
 {
     let (mut all, mut rest) = term(alloc, depth, tokens)?;
     while let Some((how, behind)) = sum_sign(rest) {
-        let (next, left_over) = term(alloc, depth, behind)?;
-        all = sum(alloc, how, all, next)?;
+        let next = term(alloc, depth, behind);
+        let (longer, left_over) = sum(alloc, how, all, next)?;
+        all = longer;
         rest = left_over;
     }
     Ok((all, rest))
@@ -55,12 +57,32 @@ fn term<'a>(
     ensures fit { LeavesFit result }
 {
     let (mut all, mut rest) = factor(alloc, depth, tokens)?;
-    while let Some(behind) = behind_mark(Mark::Times, rest) {
-        let (next, left_over) = factor(alloc, depth, behind)?;
-        all = product(alloc, all, next)?;
+    while let Some((how, behind)) = product_sign(rest) {
+        let next = next_factor(alloc, depth, how, behind);
+        let (longer, left_over) = product(alloc, how, all, next)?;
+        all = longer;
         rest = left_over;
     }
     Ok((all, rest))
+}
+
+// A factor behind `*` or a divisor behind `/`, and the tokens behind it.
+#[cycle(expr)]
+fn next_factor<'a>(
+    alloc: Global,
+    depth: u32,
+    how: Multiplication,
+    tokens: &'a [Token<'a>],
+) -> Result<(Expr, &'a [Token<'a>]), ParseFault>
+    requires open { depth ≤ 32 }
+    requires fit { All IsFit (plain_tokens tokens.now) }
+    ensures parses { ParsesNext depth how tokens.now result }
+    ensures fit { LeavesFit result }
+{
+    match how {
+        Multiplication::Times => factor(alloc, depth, tokens),
+        Multiplication::Over => divisor(alloc, depth, tokens),
+    }
 }
 
 // A factor of a term and the tokens behind it.
@@ -82,9 +104,9 @@ fn factor<'a>(
             Err(ParseFault::At(LineFaultKind::Deep, tokens.len()))
         };
     }
-    match upper_number(tokens) {
-        Some((above, behind)) => fraction(above, behind),
-        None => power(alloc, depth, tokens),
+    match literal(tokens) {
+        Some((above, below, rest)) => fraction(above, below, rest),
+        None => divisor(alloc, depth, tokens),
     }
 }
 
@@ -100,21 +122,19 @@ fn negated<'a>(
     ensures parses { ParsesOpposite depth tokens.now result }
     ensures fit { LeavesFit result }
 {
-    let (inner, rest) = factor(alloc, depth, tokens)?;
-    Ok((opposite(alloc, inner)?, rest))
+    opposite(alloc, factor(alloc, depth, tokens))
 }
 
-// A primary, perhaps with an exponent, and the tokens behind it.
+// A primary, perhaps with an exponent, and the tokens behind it: no literal and no minus.
 #[cycle(expr)]
-fn power<'a>(
+fn divisor<'a>(
     alloc: Global,
     depth: u32,
     tokens: &'a [Token<'a>],
 ) -> Result<(Expr, &'a [Token<'a>]), ParseFault>
     requires open { depth ≤ 32 }
     requires fit { All IsFit (plain_tokens tokens.now) }
-    requires primary { NeedsPrimary (plain_tokens tokens.now) }
-    ensures parses { ParsesFactor depth tokens.now result }
+    ensures parses { ParsesDivisor depth tokens.now result }
     ensures fit { LeavesFit result }
 {
     let (base, rest) = primary(alloc, depth, tokens)?;
@@ -133,7 +153,6 @@ fn primary<'a>(
 ) -> Result<(Expr, &'a [Token<'a>]), ParseFault>
     requires open { depth ≤ 32 }
     requires fit { All IsFit (plain_tokens tokens.now) }
-    requires primary { NeedsPrimary (plain_tokens tokens.now) }
     ensures parses { ParsesPrimary depth tokens.now result }
     ensures fit { LeavesFit result }
 {
@@ -162,9 +181,5 @@ fn bracketed<'a>(
     ensures parses { ParsesBracketed depth tokens.now result }
     ensures fit { LeavesFit result }
 {
-    let (inner, rest) = expr(alloc, depth, tokens)?;
-    match behind_mark(Mark::Close, rest) {
-        Some(behind) => Ok((inner, behind)),
-        None => Err(ParseFault::At(LineFaultKind::Unexpected, rest.len())),
-    }
+    closed(expr(alloc, depth, tokens))
 }

@@ -16,6 +16,7 @@ mod literals;
 mod names;
 mod next;
 mod nodes;
+mod parts;
 
 pub use edits::parse_op;
 pub use fault::ParseFault;

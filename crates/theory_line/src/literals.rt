@@ -4,7 +4,7 @@ ghost use Rattle.theory_meaning.specs.Limits.{bound};
 ghost use Rattle.theory_grammar.specs.Scan.{IsFit};
 ghost use Rattle.theory_grammar.specs.Spelled.{lowest};
 ghost use Rattle.theory_line.specs.Reading.{LeavesFit};
-ghost use Rattle.theory_line.specs.Exprs.{ParsesBelow, ParsesExponent};
+ghost use Rattle.theory_line.specs.Exprs.{ParsesLiteral, ParsesExponent};
 ghost use Rattle.theory_syntax.specs.Plain.{expr_of};
 ghost use Rattle.theory_tokens.specs.Plain.{plain_tokens};
 
@@ -38,24 +38,20 @@ fn quotient(above: u64, below: u64) -> Frac
     }
 }
 
-/// The literal of this number and the one behind the sign of a fraction.
+/// The literal of these numbers, and the tokens behind it.
 pub fn fraction<'a>(
     above: u64,
-    tokens: &'a [Token<'a>],
+    below: u64,
+    rest: &'a [Token<'a>],
 ) -> Result<(Expr, &'a [Token<'a>]), ParseFault>
     requires above { above ≤ bound }
-    requires fit { All IsFit (plain_tokens tokens.now) }
-    ensures parses { ParsesBelow above tokens.now result }
-    ensures fit { LeavesFit result }
+    requires below { below ≤ bound }
+    ensures { ParsesLiteral above below rest.now result }
 {
-    match front(tokens) {
-        Some((Token::Number(below), rest)) => if below == 0 {
-            Err(ParseFault::At(LineFaultKind::ZeroBelow, tokens.len()))
-        } else {
-            Ok((Expr::Num(quotient(above, below)), rest))
-        },
-        _ => Err(ParseFault::At(LineFaultKind::Unexpected, tokens.len())),
+    if below == 0 {
+        return Err(ParseFault::At(LineFaultKind::ZeroBelow, rest.len() + 1));
     }
+    Ok((Expr::Num(quotient(above, below)), rest))
 }
 
 /// The power of this expression by the exponent behind the sign of a power.

@@ -1,9 +1,9 @@
 ghost use Rattle.std.specs.Prelude.{◌≡◌, IfOk};
 ghost use Rattle.theory_meaning.specs.Tree as plain;
-ghost use Rattle.theory_line.specs.Exprs.{summed};
+ghost use Rattle.theory_line.specs.Exprs.{multiplied, summed};
 ghost use Rattle.theory_syntax.specs.Plain.{expr_of};
 
-use crate::front::Addition;
+use crate::front::{Addition, Multiplication};
 use std::alloc::{AllocFailed, Global};
 use theory_points::{Name, NoMemory};
 use theory_syntax::Expr;
@@ -27,12 +27,21 @@ pub fn sum(alloc: Global, how: Addition, left: Expr, right: Expr) -> Result<Expr
     })
 }
 
-pub fn product(alloc: Global, left: Expr, right: Expr) -> Result<Expr, NoMemory>
-    ensures { IfOk result (λ e. expr_of e ≡ plain.product (expr_of left) (expr_of right)) }
+/// The product of two expressions, or their quotient.
+pub fn product(
+    alloc: Global,
+    how: Multiplication,
+    left: Expr,
+    right: Expr,
+) -> Result<Expr, NoMemory>
+    ensures { IfOk result (λ e. expr_of e ≡ multiplied how (expr_of left) (expr_of right)) }
 {
     let left = Box::new(alloc, left)?;
     let right = Box::new(alloc, right)?;
-    Ok(Expr::Prod(left, right))
+    Ok(match how {
+        Multiplication::Times => Expr::Prod(left, right),
+        Multiplication::Over => Expr::Quot(left, right),
+    })
 }
 
 pub fn opposite(alloc: Global, inner: Expr) -> Result<Expr, NoMemory>

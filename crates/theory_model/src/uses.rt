@@ -155,6 +155,7 @@ pub(crate) fn expr_findings(keys: &Keys, expr: &Expr) -> Findings
         Expr::Neg(u) => expr_findings(keys, u),
         Expr::Prod(u, v) => expr_findings(keys, u).join(expr_findings(keys, v)),
         Expr::Pow(u, _) => expr_findings(keys, u),
+        Expr::Quot(u, v) => expr_findings(keys, u).join(expr_findings(keys, v)),
     }
 }
 

@@ -206,7 +206,7 @@ fn side_over(variable: &Name, expr: &Expr) -> Option<Side>
             negated: false,
             term: term_over(variable, expr)?,
         }),
-        Expr::Sum(..) | Expr::Diff(..) | Expr::Prod(..) | Expr::Pow(..) => None,
+        Expr::Sum(..) | Expr::Diff(..) | Expr::Prod(..) | Expr::Pow(..) | Expr::Quot(..) => None,
     }
 }
 
@@ -223,6 +223,11 @@ fn term_over(variable: &Name, expr: &Expr) -> Option<Term>
                 None
             }
         }
-        Expr::Sum(..) | Expr::Diff(..) | Expr::Neg(_) | Expr::Prod(..) | Expr::Pow(..) => None,
+        Expr::Sum(..)
+        | Expr::Diff(..)
+        | Expr::Neg(_)
+        | Expr::Prod(..)
+        | Expr::Pow(..)
+        | Expr::Quot(..) => None,
     }
 }

@@ -33,6 +33,7 @@ pub fn print_op(alloc: Global, op: &Op) -> Result<Bytes, NoMemory>
     Ok(text)
 }
 
+// Appends a line, without a line feed.
 fn add_line(alloc: Global, text: &mut Bytes, line: &Line) -> Result<(), NoMemory>
     ensures { OnOk result (text.new ≡ text.old ++ line_text (line_of line.now)) }
 {
@@ -72,6 +73,7 @@ fn add_named(text: &mut Bytes, word: &[u8], name: &Name) -> Result<(), NoMemory>
     text.extend(name.as_slice())
 }
 
+// Appends names, each with a blank before it.
 fn add_arguments(text: &mut Bytes, arguments: &[Name]) -> Result<(), NoMemory>
     ensures { OnOk result (text.new ≡ text.old ++ further (codes " ") arguments.now) }
 {
@@ -81,6 +83,7 @@ fn add_arguments(text: &mut Bytes, arguments: &[Name]) -> Result<(), NoMemory>
     Ok(())
 }
 
+// Appends the parameter that a claim shifts, with its word.
 fn add_shift(text: &mut Bytes, shift: &Option<Name>) -> Result<(), NoMemory>
     ensures { OnOk result (text.new ≡ text.old ++ shift_text shift.now) }
 {

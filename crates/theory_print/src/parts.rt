@@ -15,19 +15,6 @@ pub fn add_unless(text: &mut Bytes, bare: bool, sign: &[u8]) -> Result<(), NoMem
     if bare { Ok(()) } else { text.extend(sign) }
 }
 
-/// Appends a sign, and behind it the bracket unless the test holds.
-pub fn add_opening(
-    text: &mut Bytes,
-    sign: &[u8],
-    bare: bool,
-    bracket: &[u8],
-) -> Result<(), NoMemory>
-    ensures { OnOk result (text.new ≡ text.old ++ sign.now ++ unless bare bracket.now) }
-{
-    text.extend(sign)?;
-    add_unless(text, bare, bracket)
-}
-
 /// Appends a fraction.
 pub fn add_fraction(alloc: Global, text: &mut Bytes, value: &Frac) -> Result<(), NoMemory>
     ensures { OnOk result (text.new ≡ text.old ++ fraction_text value.now) }
@@ -41,6 +28,7 @@ pub fn add_fraction(alloc: Global, text: &mut Bytes, value: &Frac) -> Result<(),
     Ok(())
 }
 
+// Appends a whole number with its sign.
 fn add_signed(alloc: Global, text: &mut Bytes, number: i64) -> Result<(), NoMemory>
     ensures { OnOk result (text.new ≡ text.old ++ signed_decimal number) }
 {
@@ -65,6 +53,7 @@ pub fn add_relation(text: &mut Bytes, rel: Rel) -> Result<(), NoMemory>
     text.extend(b" ")
 }
 
+// The sign of a relation.
 fn rel_sign(rel: Rel) -> &'static [u8]
     ensures { result.now ≡ relation_bytes rel }
 {

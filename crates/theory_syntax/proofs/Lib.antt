@@ -1,2 +1,5 @@
+pub mod DivisorLemmas
 pub mod PowerLemmas
+pub mod QuotientLemmas
+pub mod TreeLemmas
 pub mod TruthLemmas

@@ -21,6 +21,7 @@ expr_step (Expr-F.Diff u v) = plain.difference u.value v.value
 expr_step (Expr-F.Neg u) = plain.opposite u.value
 expr_step (Expr-F.Prod u v) = plain.product u.value v.value
 expr_step (Expr-F.Pow u k) = plain.power u.value k
+expr_step (Expr-F.Quot u v) = plain.quotient u.value v.value
 
 -- an expression
 abbrev pub expr_of : Expr → plain.Expr

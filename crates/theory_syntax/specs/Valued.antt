@@ -1,10 +1,10 @@
--- What is computed of expressions and claims at a point, where no value on the way passes the bound.
-use Rattle.std.specs.Prelude.{◌≡◌, Bool, Option, Some, None, Result, Ok, Err}
+-- What is computed of expressions, claims and sentences at a point, where no value on the way passes the bound.
+use Rattle.std.specs.Prelude.{◌≡◌, Bool, List, Option, Some, None, Result, Ok, Err}
 use Rattle.theory_meaning.specs.Fraction.{Fraction, IsSame}
 use Rattle.theory_meaning.specs.Point.{Point}
-use Rattle.theory_meaning.specs.Tree.{Claim}
-use Rattle.theory_meaning.specs.Truth.{truth_of}
-use Rattle.theory_meaning.specs.Wide.{HasWidePart}
+use Rattle.theory_meaning.specs.Tree.{Claim, claims_from}
+use Rattle.theory_meaning.specs.Truth.{truth_of, meets}
+use Rattle.theory_meaning.specs.Wide.{HasWidePart, SomeHasWidePart}
 use Rattle.theory_points.specs.Parts.{IsKept}
 use Rattle.theory_points.specs.declared.limit.Wide.{Wide}
 
@@ -12,6 +12,11 @@ use Rattle.theory_points.specs.declared.limit.Wide.{Wide}
 abbrev pub IsTruth : Claim → Point → Result Bool Wide → Type 0
 IsTruth c p (Ok t) = (t ≡ truth_of c p) × ¬ HasWidePart c p
 IsTruth c p (Err _) = HasWidePart c p
+
+-- whether the point meets the claims where nothing passes the bound, and Wide exactly where something does
+abbrev pub IsMeeting : List Claim → Point → Result Bool Wide → Type 0
+IsMeeting cs p (Ok met) = (met ≡ meets cs p) × ¬ SomeHasWidePart (claims_from cs) p
+IsMeeting cs p (Err _) = SomeHasWidePart (claims_from cs) p
 
 -- this truth where nothing passes the bound, and none exactly where something does
 abbrev pub IsTruthWhere : Type 0 → Bool → Option Bool → Type 0

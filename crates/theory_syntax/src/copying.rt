@@ -35,6 +35,12 @@ impl Expr {
                 )
             }
             Expr::Pow(u, k) => Expr::Pow(Box::new(alloc, u.copy(alloc)?)?, *k),
+            Expr::Quot(u, v) => {
+                Expr::Quot(
+                    Box::new(alloc, u.copy(alloc)?)?,
+                    Box::new(alloc, v.copy(alloc)?)?,
+                )
+            }
         })
     }
 }

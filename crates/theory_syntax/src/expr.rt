@@ -13,4 +13,6 @@ pub enum Expr {
     Prod(Box<Expr>, Box<Expr>),
     /// A power with an exponent from 1 to 8.
     Pow(Box<Expr>, u8),
+    /// A quotient; its value is 0 where the divisor is 0.
+    Quot(Box<Expr>, Box<Expr>),
 }

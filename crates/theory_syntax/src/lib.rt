@@ -7,14 +7,17 @@
 
 mod claim;
 mod copying;
+mod dividing;
 mod expr;
 mod line;
+mod meeting;
 mod text;
 mod truth;
 
 pub use claim::{Claim, Claims, Sentence};
 pub use expr::Expr;
 pub use line::Line;
+pub use meeting::meets_at;
 pub use text::{Lines, Numbered, Op, Ops};
 pub use theory_meaning::Rel;
 pub use truth::truth_at;

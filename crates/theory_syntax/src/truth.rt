@@ -1,5 +1,5 @@
-ghost use Rattle.std.specs.Prelude.{◌≡◌, ◌≢◌, MatchOption, IfSome, ℕ, ◌≤◌, IsTrue};
-ghost use Rattle.theory_meaning.specs.Fraction.{IsSame, power_of};
+ghost use Rattle.std.specs.Prelude.{◌≡◌, ◌≢◌, MatchOption, IfSome, ℕ, ◌≤◌, ◌*ℤ◌, IsTrue};
+ghost use Rattle.theory_meaning.specs.Fraction.{IsSame, cross, power_of, quotient_of};
 ghost use Rattle.theory_meaning.specs.Limits.{IsWide};
 ghost use Rattle.theory_meaning.specs.Truth.{value_of, truth_of, holds, all_of, some_of};
 ghost use Rattle.theory_meaning.specs.Wide.{HasWideValue, HasWidePart, SomeHasWidePart};
@@ -26,7 +26,7 @@ pub fn truth_at(claim: &Claim, point: &Point) -> Result<bool, Wide>
 
 /// The same, with None for Wide.
 #[cycle(truth)]
-fn truth(claim: &Claim, point: &Point) -> Option<bool>
+pub(crate) fn truth(claim: &Claim, point: &Point) -> Option<bool>
     ensures { IsTruthWhere (HasWidePart (claim_of claim.now) point.now)
         (truth_of (claim_of claim.now) point.now) result }
 {
@@ -69,7 +69,7 @@ fn some_true(claims: &[Claim], point: &Point) -> Option<bool>
 }
 
 /// The value of an expression at a point; None where it or a part of it passes 2^58.
-fn value(expr: &Expr, point: &Point) -> Option<Frac>
+pub(crate) fn value(expr: &Expr, point: &Point) -> Option<Frac>
     ensures { IsValued (HasWideValue (expr_of expr.now) point.now)
         (value_of (expr_of expr.now) point.now) result }
 {
@@ -81,6 +81,7 @@ fn value(expr: &Expr, point: &Point) -> Option<Frac>
         Expr::Neg(u) => Some(kept(value(u, point)?.neg())),
         Expr::Prod(u, v) => value(u, point)?.mul(&value(v, point)?),
         Expr::Pow(u, k) => power(value(u, point)?, *k),
+        Expr::Quot(u, v) => quotient(value(u, point)?, value(v, point)?),
     }
 }
 
@@ -106,6 +107,31 @@ fn power(q: Frac, k: u8) -> Option<Frac>
         };
     }
     Some(all)
+}
+
+/// The first over the second, and 0 where that is 0; None where it passes 2^58.
+fn quotient(q: Frac, r: Frac) -> Option<Frac>
+    ensures { MatchOption result (IsWide (quotient_of q r))
+        (λ f. IsSame f (quotient_of q r) × IsKept f) }
+{
+    if r.num() == 0 {
+        return Some(kept(Frac::zero()));
+    }
+    Frac::new(crossed(q, r), crossed(r, q))
+}
+
+/// The numerator of the first over the product of the two denominators.
+fn crossed(q: Frac, r: Frac) -> i128
+    ensures { result ≡ cross q r }
+{
+    product(q.num(), r.den())
+}
+
+/// The product of two parts at 128 bits.
+fn product(a: i64, b: i64) -> i128
+    ensures { result ≡ a *ℤ b }
+{
+    a as i128 * b as i128
 }
 
 /// Whether the relation holds between two values.

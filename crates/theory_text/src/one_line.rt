@@ -52,6 +52,7 @@ fn scan_short<'a>(alloc: Global, number: u32, bytes: &'a [u8]) -> Result<Scanned
     Ok(scan_line(alloc, bytes)?)
 }
 
+// Whether the line has no token, and no bytes that can't be read.
 fn has_nothing(scanned: &Scanned<'_>) -> bool
     ensures { result ≡ has_nothing scanned.now.tokens.items scanned.now.end }
 {

@@ -41,6 +41,7 @@ pub fn check_line(bytes: &[u8]) -> Result<(), TextError>
     }
 }
 
+// Whether the bytes are a text, by their number first and then by their encoding.
 fn check_bytes(bytes: &[u8]) -> Result<(), NoText>
     ensures { IsSized bytes.now result }
 {

@@ -37,6 +37,7 @@ pub fn read_text(alloc: Global, bytes: &[u8]) -> Result<Lines, TextError>
     Ok(lines)
 }
 
+// Appends the line of this number, if it has a token.
 fn add_line(alloc: Global, lines: &mut Lines, number: u32, bytes: &[u8]) -> Result<(), TextError>
     ensures { IsAdded IsLine with_number number bytes.now (lines_of lines.old.items)
         (lines_of lines.new.items) result }
@@ -68,6 +69,7 @@ pub fn read_ops(alloc: Global, bytes: &[u8]) -> Result<Ops, TextError>
     Ok(ops)
 }
 
+// Appends the operation of the line of this number, if it has a token.
 fn add_op(alloc: Global, ops: &mut Ops, number: u32, bytes: &[u8]) -> Result<(), TextError>
     ensures { IsAdded IsOp without_number number bytes.now (ops_of ops.old.items)
         (ops_of ops.new.items) result }

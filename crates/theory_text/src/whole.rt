@@ -41,6 +41,7 @@ fn fault_at(number: u32, scanned: &Scanned<'_>, kind: LineFaultKind, left: usize
     unexpected(number, kind, scanned.columns[place])
 }
 
+// The error at a token of the line of this number, or at its end.
 fn unexpected(number: u32, kind: LineFaultKind, column: u32) -> TextError
     ensures { result ≡ token_error number kind column }
 {
@@ -56,6 +57,7 @@ fn unexpected(number: u32, kind: LineFaultKind, column: u32) -> TextError
     }
 }
 
+// The error at bytes of the line of this number that can't be read.
 fn unreadable(number: u32, why: Unreadable, column: u32) -> TextError
     ensures { result ≡ bytes_error number why column }
 {

@@ -15,11 +15,14 @@ decreases-term l = 6 * length l.tokens.now + 4
 abbrev pub decreases-factor : goal.decreases-factor
 decreases-factor l = 6 * length l.tokens.now + 3
 
+abbrev pub decreases-next_factor : goal.decreases-next_factor
+decreases-next_factor l = 6 * length l.tokens.now + 4
+
 abbrev pub decreases-negated : goal.decreases-negated
 decreases-negated l = 6 * length l.tokens.now + 4
 
-abbrev pub decreases-power : goal.decreases-power
-decreases-power l = 6 * length l.tokens.now + 2
+abbrev pub decreases-divisor : goal.decreases-divisor
+decreases-divisor l = 6 * length l.tokens.now + 2
 
 abbrev pub decreases-primary : goal.decreases-primary
 decreases-primary l = 6 * length l.tokens.now + 1
@@ -30,8 +33,8 @@ invariant-expr-loop-how l = IsSummed l.tokens l.rest l.depth (expr_of l.all)
 abbrev pub decreases-expr-loop-how : goal.decreases-expr-loop-how
 decreases-expr-loop-how l = length l.rest
 
-abbrev pub invariant-term-loop-behind : goal.invariant-term-loop-behind
-invariant-term-loop-behind l = IsMultiplied l.tokens l.rest l.depth (expr_of l.all)
+abbrev pub invariant-term-loop-how : goal.invariant-term-loop-how
+invariant-term-loop-how l = IsMultiplied l.tokens l.rest l.depth (expr_of l.all)
 
-abbrev pub decreases-term-loop-behind : goal.decreases-term-loop-behind
-decreases-term-loop-behind l = length l.rest
+abbrev pub decreases-term-loop-how : goal.decreases-term-loop-how
+decreases-term-loop-how l = length l.rest

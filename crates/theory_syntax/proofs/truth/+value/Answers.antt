@@ -1,16 +1,16 @@
 use Rattle.std.proofs.Common.{◌≡◌, sym, ap, ◌∙◌, subst, Some}
-use Rattle.theory_meaning.specs.Fraction.{Fraction, sum_of, difference_of, product_of, opposite_of, power_of}
+use Rattle.theory_meaning.specs.Fraction.{Fraction, sum_of, difference_of, product_of, opposite_of, power_of, quotient_of}
 use Rattle.theory_meaning.specs.Tree as plain
 use Rattle.theory_meaning.specs.Truth.{value_of}
 use Rattle.theory_meaning.specs.Wide.{HasWideValue}
-use Rattle.theory_meaning.proofs.ValueLaws.{sum_respects, difference_respects, product_respects, opposite_respects, power_respects}
+use Rattle.theory_meaning.proofs.ValueLaws.{sum_respects, difference_respects, product_respects, opposite_respects, power_respects, quotient_respects}
 use Rattle.theory_points.specs.Parts.{IsKept}
 use Rattle.theory_syntax.specs.Plain.{expr_of, expr_step}
 use Rattle.theory_syntax.specs.Valued.{IsValued}
 use Rattle.theory_syntax.proofs.TruthLemmas.{valued_of_two, valued_of_one, split_found, same_of_equal, told_of}
 use Rattle.theory_syntax.specs.declared.expr.Expr.TheOpen.{Expr-F}
 use Rattle.theory_syntax.specs.declared.expr.Expr.TheFolds.{fold-roll-Expr}
-use Rattle.theory_syntax.specs.declared.expr.Expr.TheVariants.{rolls-Sum, rolls-Diff, rolls-Neg, rolls-Prod, rolls-Pow}
+use Rattle.theory_syntax.specs.declared.expr.Expr.TheVariants.{rolls-Sum, rolls-Diff, rolls-Neg, rolls-Prod, rolls-Pow, rolls-Quot}
 use Rattle.theory_syntax.proofs.truth.+value.Goals as goal
 
 pub returns-in_ok-value-in-Sum-2 : goal.returns-in_ok-value-in-Sum-2
@@ -81,3 +81,17 @@ returns-in_ok-value-in-Pow t c =
     (valued_of_one (λ q. power_of q k) (λ q r same. power_respects q r k same) (HasWideValue (expr_of u.value) p)
     (value_of (expr_of u.value) p) f c.power.result
     (told_of p f _ _ c.deref-in-Pow.ensures c.in_ok-value-in-Pow.ensures) (split_found (power_of f k) c.power.result c.power.ensures))
+
+pub returns-in_ok-value-in-Quot-2 : goal.returns-in_ok-value-in-Quot-2
+returns-in_ok-value-in-Quot-2 t c =
+    let p = c.args.point.now in
+    let u = c.in-Quot.u in
+    let v = c.in-Quot.v in
+    let f = c.in_ok-value-in-Quot.field-0 in
+    let g = c.in_ok-value-in-Quot-2.field-0 in
+    let layer : expr_of c.args.expr.now ≡ plain.quotient (expr_of u.value) (expr_of v.value) =
+    ap expr_of (c.in-Quot.is ∙ sym (rolls-Quot u v)) ∙ fold-roll-Expr plain.Expr expr_step (Expr-F.Quot u v) in
+    subst (λ e. IsValued (HasWideValue e p) (value_of e p) c.quotient.result) (sym layer)
+    (valued_of_two quotient_of quotient_respects (HasWideValue (expr_of u.value) p) (HasWideValue (expr_of v.value) p) (value_of (expr_of u.value) p)
+    (value_of (expr_of v.value) p) f g c.quotient.result (told_of p f _ _ c.deref-in-Quot.ensures c.in_ok-value-in-Quot.ensures)
+    (told_of p g _ _ c.deref-in-Quot-2.ensures c.in_ok-value-in-Quot-2.ensures) (split_found (quotient_of f g) c.quotient.result c.quotient.ensures))
