@@ -1,0 +1,9 @@
+pub mod Candidates
+pub mod Choice
+pub mod Finding
+pub mod Search
+pub mod Outcomes
+pub mod Regions
+pub mod Witness
+pub mod Answers
+pub mod WorkedSearches

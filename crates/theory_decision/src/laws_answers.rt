@@ -1,0 +1,37 @@
+ghost use Rattle.std.specs.Prelude.{◌≡◌, ◌≤◌, ◌↔◌, List, length, IsTrue};
+ghost use Rattle.theory_meaning.specs.declared.words.Kind.{Kind};
+ghost use Rattle.theory_meaning.specs.Half.{Half, IsRightHalf};
+ghost use Rattle.theory_meaning.specs.Point.{Name, Point};
+ghost use Rattle.theory_meaning.specs.Tree.{Claim};
+ghost use Rattle.theory_meaning.specs.Truth.{truth_of, Meets};
+ghost use Rattle.theory_lowering.specs.LoweringLimits.{AreListed, IsListedClaim};
+ghost use Rattle.theory_decision.specs.Answers.{AreDistinct, AreListedNames, AgreeAt, Region, known, IsWrittenHalf, IsWrittenRegion};
+
+/// What is written of a half is true of all points.
+pub fn a_written_half_is_right()
+    ensures { (kind : Kind) (ns : List Name) (cs : List Claim) (h : Half) → length ns ≤ 32 →
+        AreListed ns cs → AreDistinct ns → IsWrittenHalf kind ns cs h → IsRightHalf cs h }
+{}
+
+/// A known condition is true exactly where no point with these values meets the claims.
+pub fn a_known_condition_is_right()
+    ensures { (kind : Kind) (ns : List Name) (cs : List Claim) (on : List Name) (C : Claim) →
+        length ns ≤ 32 → AreListed ns cs → AreDistinct ns → AreListedNames ns on →
+        IsWrittenRegion kind ns cs on (known C) → (p : Point) →
+        IsTrue (truth_of C p) ↔ ¬ ((q : Point) × AgreeAt on p q × Meets cs q) }
+{}
+
+/// It holds these names alone.
+pub fn a_known_condition_holds_its_names()
+    ensures { (kind : Kind) (ns : List Name) (cs : List Claim) (on : List Name) (C : Claim) →
+        IsWrittenRegion kind ns cs on (known C) → IsListedClaim on C }
+{}
+
+/// Claims have one written half, and one written condition on names.
+pub fn written_answers_are_single()
+    ensures half { (kind : Kind) (ns : List Name) (cs : List Claim) (h g : Half) →
+        IsWrittenHalf kind ns cs h → IsWrittenHalf kind ns cs g → h ≡ g }
+    ensures region { (kind : Kind) (ns : List Name) (cs : List Claim) (on : List Name)
+        (r q : Region) → IsWrittenRegion kind ns cs on r → IsWrittenRegion kind ns cs on q →
+        r ≡ q }
+{}

@@ -1,0 +1,14 @@
+pub mod SignsOfProducts
+pub mod PossibleTruth
+pub mod SignedTruth
+pub mod SignedAtoms
+pub mod SplitPowers
+pub mod SquareSigns
+pub mod SplitPlaces
+pub mod SplitTruth
+pub mod SplitCanonical
+pub mod SplitFree
+pub mod ConditionAtoms
+pub mod KindTruth
+pub mod KindAtoms
+pub mod ReducedForms
