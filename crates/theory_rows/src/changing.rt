@@ -1,12 +1,12 @@
 //! The call that changes a model by edits.
 
-use crate::fault::RowFault;
 use crate::models::{fault, model};
 use crate::reading::lines_told;
-use crate::telling::numbered;
 use std::alloc::Global;
 use theory_model::{EditFault, apply, put_identifiers, text_of};
 use theory_points::Bytes;
+use theory_rows_method::fault::RowFault;
+use theory_rows_method::telling::numbered;
 use theory_text::read_ops;
 
 /// The lines of a model after edits, or why they are refused.

@@ -2,25 +2,16 @@
 //! last how many rows there were.
 #![tactic(auto)]
 
-mod answers;
-mod branching;
 mod calls;
 mod changing;
-mod conditions;
-mod fault;
-mod formula_texts;
-mod formulas;
-mod grid;
+mod lists;
+mod long;
 mod models;
-mod numbers;
-mod pieces;
-mod polynomials;
-mod quotients;
+mod postfix;
 mod reading;
 mod rows;
 mod spelling;
 mod tables;
-mod telling;
 mod tokens;
 mod writing;
 
@@ -28,13 +19,14 @@ use std::process::ExitCode;
 use std::{env, io};
 use tables::{Tally, run_tables};
 use theory_edge::{RealFiles, RealSink};
+use theory_rows_method::fault::RowFault;
 
 fn main(rt: HostRuntime) -> ExitCode {
     let mut files = RealFiles::new(&rt);
     let mut out = RealSink::output(rt.stdout());
     let told = match words(&rt) {
         Ok(names) => run_tables(rt.alloc(), &names, &mut files, &mut out),
-        Err(_) => Err(fault::RowFault::Memory),
+        Err(_) => Err(RowFault::Memory),
     };
     match told {
         Ok(Tally { wrong: 0, .. }) => ExitCode::SUCCESS,

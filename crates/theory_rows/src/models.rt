@@ -1,13 +1,13 @@
 //! Calls on models: their first fault, listed symbols, one-variable texts.
 
-use crate::fault::RowFault;
 use crate::reading::lines;
 use crate::spelling::relation;
-use crate::telling::{add_apart, fraction, numbered, told};
 use std::alloc::Global;
 use theory_model::{Model, ModelFault, ModelKind, check, have_identifiers, kind_name, symbols};
 use theory_one_variable::{NotOneVariable, Role, Row, Side, Term, one_variable};
 use theory_points::{Bytes, Name};
+use theory_rows_method::fault::RowFault;
+use theory_rows_method::telling::{add_apart, fraction, numbered, told};
 use theory_syntax::Lines;
 
 /// The model of lines whose names are identifiers, or its first fault.

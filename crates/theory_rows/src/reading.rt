@@ -1,11 +1,11 @@
 //! Calls that read: lines, texts and edit texts.
 
-use crate::fault::RowFault;
-use crate::telling::{add_apart, add_whole, told};
 use std::alloc::Global;
 use theory_points::Bytes;
 use theory_print::print_op;
-use theory_syntax::{Lines, Numbered};
+use theory_rows_method::fault::RowFault;
+use theory_rows_method::telling::{add_apart, add_whole, told, yes_or_no};
+use theory_syntax::{Line, Lines, Numbered};
 use theory_text::{TextError, TextKind, kind_name, print_line, read_line, read_ops, read_text};
 
 /// The kind of a fault, with line and column.
@@ -35,6 +35,29 @@ pub fn printed_twice(alloc: Global, bytes: &[u8]) -> Result<Bytes, RowFault> {
         Ok(once)
     } else {
         told(alloc, "another line")
+    }
+}
+
+/// The printed form of a copy of a line.
+pub fn copied(alloc: Global, bytes: &[u8]) -> Result<Bytes, RowFault> {
+    match read_line(alloc, bytes) {
+        Ok(Some(line)) => copy_printed(alloc, &line),
+        Ok(None) => told(alloc, "nothing"),
+        Err(error) => fault(alloc, error),
+    }
+}
+
+fn copy_printed(alloc: Global, line: &Line) -> Result<Bytes, RowFault> {
+    let copy = line.copy(alloc)?;
+    Ok(print_line(alloc, &copy)?)
+}
+
+/// Whether something is divided in a line.
+pub fn divides(alloc: Global, bytes: &[u8]) -> Result<Bytes, RowFault> {
+    match read_line(alloc, bytes) {
+        Ok(Some(line)) => yes_or_no(alloc, line.divides()),
+        Ok(None) => told(alloc, "nothing"),
+        Err(error) => fault(alloc, error),
     }
 }
 

@@ -1,9 +1,10 @@
 use crate::calls::answer;
-use crate::fault::RowFault;
-use crate::rows::{Row, bytes_of, read_row};
+use crate::rows::{Row, read_row};
 use std::alloc::Global;
 use theory_edge::{Files, Sink};
 use theory_points::Bytes;
+use theory_rows_method::fault::RowFault;
+use theory_rows_runs::escapes::bytes_of;
 
 /// The greatest number of bytes of a table.
 const MOST_BYTES: usize = 1 << 20;

@@ -1,10 +1,12 @@
-//! The call that reads tokens.
+//! Calls that read tokens, and lines and edits from them.
 
-use crate::fault::RowFault;
 use crate::spelling::{keyword, mark, relation};
-use crate::telling::{add_apart, add_whole};
 use std::alloc::Global;
+use theory_line::{ParseFault, parse_line, parse_op};
 use theory_points::Bytes;
+use theory_print::{print_line, print_op};
+use theory_rows_method::fault::RowFault;
+use theory_rows_method::telling::{add_apart, add_whole, numbered, told};
 use theory_tokens::{End, Token, scan_line};
 
 /// The tokens of a line, each with its column, and how the line ends.
@@ -66,4 +68,37 @@ fn end_told(alloc: Global, end: End) -> Result<Bytes, RowFault> {
         }
     }
     Ok(text)
+}
+
+/// The printed form of the line that the tokens of some bytes are, or the text of its fault and
+/// how many tokens are left.
+pub fn parsed(alloc: Global, line: &[u8]) -> Result<Bytes, RowFault> {
+    if line.len() > 65_536 {
+        return Err(RowFault::Unreadable);
+    }
+    let scanned = scan_line(alloc, line)?;
+    match parse_line(alloc, &scanned.tokens) {
+        Ok(line) => Ok(print_line(alloc, &line)?),
+        Err(fault) => fault_told(alloc, fault),
+    }
+}
+
+/// The same for an edit.
+pub fn parsed_edit(alloc: Global, line: &[u8]) -> Result<Bytes, RowFault> {
+    if line.len() > 65_536 {
+        return Err(RowFault::Unreadable);
+    }
+    let scanned = scan_line(alloc, line)?;
+    match parse_op(alloc, &scanned.tokens) {
+        Ok(op) => Ok(print_op(alloc, &op)?),
+        Err(fault) => fault_told(alloc, fault),
+    }
+}
+
+fn fault_told(alloc: Global, fault: ParseFault) -> Result<Bytes, RowFault> {
+    let text = fault.to_string(alloc)?;
+    match fault {
+        ParseFault::At(_, left) => numbered(alloc, text.as_str(), left as i128),
+        ParseFault::Memory => told(alloc, text.as_str()),
+    }
 }

@@ -2,8 +2,8 @@
 
 use std::alloc::Global;
 use std::test::Fail;
+use theory_lower::{LowerFault, is_listed, lower};
 use theory_points::{Names, NoMemory};
-use theory_signs::{LowerFault, is_listed, lower};
 use theory_syntax::{Claim, Claims, Sentence};
 
 /// As many members true, or false where that is said.

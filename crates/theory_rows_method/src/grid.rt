@@ -1,15 +1,15 @@
-//! Whether lowering and writing keep the truth of a claim at some points.
+//! Whether lowering and writing keep the points that meet a claim, at some points.
 
 use crate::fault::RowFault;
 use crate::formula_texts::written;
 use crate::formulas::of_claim;
-use crate::pieces::{claim, symbols};
+use crate::pieces::{alone, claim, symbols};
 use crate::telling::{numbered, told};
 use std::alloc::Global;
 use theory_points::{Bytes, Frac, Point};
 use theory_poly::{Poly, Term};
 use theory_signs::Formula;
-use theory_syntax::{Claim, truth_at};
+use theory_syntax::{Claim, meets_at};
 
 /// Values of x, y and z, each as numerator and denominator.
 type Values = [(i64, i64); 3];
@@ -96,12 +96,13 @@ fn point(alloc: Global, values: &[Frac; 3]) -> Result<Point, RowFault> {
     Ok(point)
 }
 
-/// The first of the points at which formula and claim aren't both true or both false.
-fn difference(alloc: Global, formula: &Formula, claim: &Claim) -> Result<Option<usize>, RowFault> {
+/// The first of the points at which the formula isn't true exactly where the claim is met.
+fn difference(alloc: Global, formula: &Formula, claim: Claim) -> Result<Option<usize>, RowFault> {
+    let sentence = alone(alloc, claim)?;
     for (k, values) in POINTS.iter().enumerate() {
         let values = fractions(values);
         let found = truth(formula, &values);
-        let wanted = truth_at(claim, &point(alloc, &values)?).ok();
+        let wanted = meets_at(&sentence, &point(alloc, &values)?).ok();
         if found.is_none() || found != wanted {
             return Ok(Some(k));
         }
@@ -109,14 +110,14 @@ fn difference(alloc: Global, formula: &Formula, claim: &Claim) -> Result<Option<
     Ok(None)
 }
 
-/// Whether a claim and what is written for its formula have the truth of the formula.
+/// Whether the formula of a claim, and what is written for it, are true where the claim is met.
 pub fn kept(alloc: Global, field: &str) -> Result<Bytes, RowFault> {
     let claim = claim(alloc, field)?;
     let formula = of_claim(alloc, claim.copy(alloc)?)?;
-    if let Some(place) = difference(alloc, &formula, &claim)? {
+    if let Some(place) = difference(alloc, &formula, claim)? {
         return numbered(alloc, "lowered otherwise at point", place as i128);
     }
-    match difference(alloc, &formula, &written(alloc, &formula)?)? {
+    match difference(alloc, &formula, written(alloc, &formula)?)? {
         Some(place) => numbered(alloc, "written otherwise at point", place as i128),
         None => told(alloc, "kept"),
     }

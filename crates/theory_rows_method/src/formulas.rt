@@ -2,11 +2,12 @@
 
 use crate::fault::RowFault;
 use crate::formula_texts::shown;
-use crate::pieces::{claim, sentence, symbols};
+use crate::pieces::{alone, claim, sentence};
 use crate::telling::told;
 use std::alloc::Global;
+use theory_lower::{LowerFault, is_listed, lower};
 use theory_points::Bytes;
-use theory_signs::{Formula, Formulas, LowerFault, is_listed, lower};
+use theory_signs::{Formula, Formulas};
 use theory_syntax::{Claim, Sentence};
 
 /// The lowered formula of a sentence, or why there is none.
@@ -41,12 +42,10 @@ pub fn is_lowered(alloc: Global, field: &str) -> Result<Bytes, RowFault> {
     }
 }
 
-/// The formula of one claim.
+/// The formula of one claim, behind those of its divisors where it has any.
 pub fn of_claim(alloc: Global, claim: Claim) -> Result<Formula, RowFault> {
-    let mut conjuncts = Vec::new(alloc);
-    conjuncts.push(claim)?;
-    let symbols = symbols(alloc)?;
-    match lowered(alloc, &Sentence { conjuncts, symbols })? {
+    let sentence = alone(alloc, claim)?;
+    match lowered(alloc, &sentence)? {
         Ok(Formula::And(members)) => Ok(list(true, members)),
         _ => Err(RowFault::Unreadable),
     }

@@ -4,8 +4,9 @@ use crate::fault::RowFault;
 use crate::pieces::symbols;
 use crate::telling::add_apart;
 use std::alloc::Global;
+use theory_lower::claim_of;
 use theory_points::Bytes;
-use theory_signs::{Formula, claim_of, is_named};
+use theory_signs::{Formula, is_named};
 use theory_syntax::Claim;
 use theory_text::print_claim;
 

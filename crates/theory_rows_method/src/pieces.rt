@@ -5,7 +5,7 @@ use std::alloc::Global;
 use theory_meaning::Sign;
 use theory_points::{Bytes, Frac, Name, Names, Point};
 use theory_signs::Signs;
-use theory_syntax::{Claim, Claims, Line, Sentence};
+use theory_syntax::{Claim, Claims, Expr, Line, Sentence};
 use theory_text::read_line;
 
 pub fn whole(field: &str) -> Result<i128, RowFault> {
@@ -109,6 +109,23 @@ pub fn claim(alloc: Global, field: &str) -> Result<Claim, RowFault> {
         Ok(Some(Line::Claim(_, _, claim))) => Ok(claim),
         _ => Err(RowFault::Unreadable),
     }
+}
+
+/// The expression of a field.
+pub fn expression(alloc: Global, field: &str) -> Result<Expr, RowFault> {
+    let compared = format!(in alloc; "{field} = 0")?;
+    match claim(alloc, compared.as_str())? {
+        Claim::Atom(left, _, _) => Ok(left),
+        _ => Err(RowFault::Unreadable),
+    }
+}
+
+/// One claim as a sentence about x, y and z.
+pub fn alone(alloc: Global, claim: Claim) -> Result<Sentence, RowFault> {
+    let mut conjuncts = Vec::new(alloc);
+    push_claim(&mut conjuncts, claim)?;
+    let symbols = symbols(alloc)?;
+    Ok(Sentence { conjuncts, symbols })
 }
 
 /// The claims between semicolons, as a sentence about x, y and z.

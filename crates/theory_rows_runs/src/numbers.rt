@@ -1,12 +1,12 @@
 //! Calls on fractions.
 
-use crate::fault::RowFault;
-use crate::pieces::{frac, whole};
-use crate::telling::{add_whole, fraction, told};
 use std::alloc::Global;
 use std::cmp::Ordering;
 use theory_meaning::Sign;
 use theory_points::{Bytes, Frac, simplest_between, whole_above, whole_below};
+use theory_rows_method::fault::RowFault;
+use theory_rows_method::pieces::{frac, whole};
+use theory_rows_method::telling::{add_whole, fraction, told};
 
 /// The fraction as it is printed, or none.
 fn answer(alloc: Global, found: Option<Frac>) -> Result<Bytes, RowFault> {

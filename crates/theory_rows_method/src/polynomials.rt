@@ -1,9 +1,8 @@
 //! Polynomials: written as expressions, printed in their fixed order, and the calls on them.
 
 use crate::fault::RowFault;
-use crate::pieces::{frac, symbol};
+use crate::pieces::{expression, frac, symbol};
 use crate::telling::{add_whole, told};
-use crate::writing::expression;
 use std::alloc::Global;
 use theory_points::{Bytes, Limit, Name};
 use theory_poly::{Poly, Term};
@@ -35,6 +34,7 @@ fn value(alloc: Global, expr: &Expr) -> Result<Poly, Limit> {
         Expr::Prod(u, v) => value(alloc, u)?.mul(alloc, &value(alloc, v)?),
         Expr::Neg(u) => Poly::constant(alloc, 0)?.sub(alloc, &value(alloc, u)?),
         Expr::Pow(u, k) => power(alloc, &value(alloc, u)?, *k),
+        Expr::Quot(_, _) => Err(Limit::Wide),
     }
 }
 

@@ -1,0 +1,15 @@
+//! Rows about polynomials and formulas: what a call of theirs answers, and what their
+//! fields stand for. Read `calls::answer` first.
+#![tactic(auto)]
+
+mod branching;
+pub mod calls;
+mod conditions;
+pub mod fault;
+mod formula_texts;
+mod formulas;
+mod grid;
+pub mod pieces;
+mod polynomials;
+mod quotients;
+pub mod telling;
