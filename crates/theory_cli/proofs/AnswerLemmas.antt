@@ -7,13 +7,14 @@ use Rattle.theory_meaning.specs.Point.{Name}
 use Rattle.theory_meaning.specs.Question.{assumptions_of, example_sentence, counter_sentence}
 use Rattle.theory_meaning.specs.Tree.{Line, model, var}
 use Rattle.theory_meaning.specs.Verdict.{verdict_of_halves}
-use Rattle.theory_one_variable.specs.Asking.{HaveNoEquation}
+use Rattle.theory_meaning.specs.Asking.{HaveNoEquation}
 use Rattle.theory_meaning.specs.Edit.{lines_alone}
 use Rattle.theory_one_variable.specs.declared.text.Atom.{Atom}
 use Rattle.theory_one_variable.specs.declared.text.Row.{Row}
 use Rattle.theory_one_variable.specs.Rows.{atom_claim, row_lines, sentence}
 use Rattle.theory_one_variable.specs.WrittenHalf.{IsWrittenHalf}
-use Rattle.theory_one_variable.proofs.AskingLaws.{right_answer_of_sentences, rows_are_none, text_lists}
+use Rattle.theory_meaning.proofs.AskingLaws.{right_answer_of_sentences}
+use Rattle.theory_one_variable.proofs.AskingLaws.{rows_are_none, text_lists}
 use Rattle.theory_verdict.specs.declared.answer.Answer.{Answer}
 use Rattle.theory_verdict.specs.Plain.{half_of}
 use Rattle.theory_cli.specs.Session.{first_version, IsAnswerAbout}

@@ -1,8 +1,8 @@
 -- A check of a file, from how it was read and what was told of its text; and a whole run, from such a check.
 use Rattle.std.proofs.Common.{◌≡◌, ℕ, List, [], ◌∷◌, ◌++◌, ◌≤◌, Some, Result, Ok, Err, inl, inr, ⊎_elim, refl, sym, ap, ◌∙◌, subst, arith, length, get_or, map}
 use Rattle.std.specs.Prelude.{codes}
-use Rattle.theory_meaning.specs.Faults.{Rose}
-use Rattle.theory_edge.specs.Files.{FilesTold, IsRead, ReadOnce, one_more}
+use Rattle.theory_meaning.specs.Faults.{Rose, one_more}
+use Rattle.theory_edge.specs.Files.{FilesTold, IsRead, ReadOnce}
 use Rattle.theory_edge.specs.Sinks.{SinkTold}
 use Rattle.theory_cli.specs.declared.reply.Reply.{Reply}
 use Rattle.theory_cli.specs.declared.session.Halt.{Halt}

@@ -1,5 +1,6 @@
 -- What files tell, what a read of a named file gives, and how the counts of reads and faults go on.
-use Rattle.std.specs.Prelude.{◌≡◌, ℕ, ◌+◌, ◌-◌, ◌^◌, ◌≤◌, min, take, List, Option, None, Some, Result, Ok, Err}
+use Rattle.std.specs.Prelude.{◌≡◌, ℕ, ◌+◌, ◌≤◌, take, List, Option, None, Some, Result, Ok, Err}
+use Rattle.theory_meaning.specs.Faults.{one_more}
 use Rattle.theory_edge.specs.declared.files.EndFault.{EndFault}
 use Rattle.theory_edge.specs.declared.files.EndFault.TheVariants.{Failed, NoMemory}
 
@@ -23,10 +24,6 @@ abbrev pub IsRead : Texts → List ℕ → ℕ → List ℕ → Type 0
 IsRead None name limit bytes = Unit {0}
 IsRead (Some told) name limit bytes =
     (text : List ℕ) × (told name ≡ Some text) × (bytes ≡ take (limit + 1) text)
-
--- one more, but the greatest number of 64 bits stands still
-abbrev pub one_more : ℕ → ℕ
-one_more n = min (n + 1) (2 ^ 64 - 1)
 
 -- the count of faults after this answer
 abbrev pub faults_after : {T : Type 0} → ℕ → Result T EndFault → ℕ

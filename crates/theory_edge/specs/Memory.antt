@@ -4,7 +4,8 @@ use Rattle.std.specs.Str.{bytes_eq}
 use Rattle.theory_edge.specs.declared.files.EndFault.{EndFault}
 use Rattle.theory_edge.specs.declared.files.EndFault.TheVariants.{Failed, NoMemory}
 use Rattle.theory_edge.specs.declared.memory.MemText.{MemText}
-use Rattle.theory_edge.specs.Files.{Asking, Texts, FilesTold, one_more, faults_after}
+use Rattle.theory_meaning.specs.Faults.{one_more}
+use Rattle.theory_edge.specs.Files.{Asking, Texts, FilesTold, faults_after}
 use Rattle.theory_edge.specs.Sinks.{SinkTold}
 
 -- texts by name, which calls fail, how many calls and faults there were, and what was last asked for

@@ -1,7 +1,8 @@
 -- What is known of the files of the system, and of a stream that is written to.
 use Rattle.std.specs.Prelude.{ℕ, List, None, Some, Result, Ok, Err}
 use Rattle.theory_edge.specs.declared.files.EndFault.{EndFault}
-use Rattle.theory_edge.specs.Files.{Asking, FilesTold, one_more, faults_after}
+use Rattle.theory_meaning.specs.Faults.{one_more}
+use Rattle.theory_edge.specs.Files.{Asking, FilesTold, faults_after}
 use Rattle.theory_edge.specs.Sinks.{SinkTold}
 
 -- how many reads were made and how many failed, and what was last asked for

@@ -1,6 +1,7 @@
 -- What is known of files that never fail, and of a sink that takes everything.
 use Rattle.std.specs.Prelude.{ℕ, List, None, Some}
-use Rattle.theory_edge.specs.Files.{Asking, Texts, FilesTold, one_more}
+use Rattle.theory_meaning.specs.Faults.{one_more}
+use Rattle.theory_edge.specs.Files.{Asking, Texts, FilesTold}
 use Rattle.theory_edge.specs.Sinks.{SinkTold}
 
 -- the text under every name, how many reads were made, and what was last asked for

@@ -1,7 +1,7 @@
 ghost use Rattle.std.specs.Prelude.{◌≡◌, ℕ, ◌+◌, List, Some, IfOk, take, string_bytes};
-ghost use Rattle.theory_meaning.specs.Faults.{HasCause};
+ghost use Rattle.theory_meaning.specs.Faults.{HasCause, one_more};
 ghost use Rattle.theory_edge.specs.declared.files.EndFault.TheVariants.{NoMemory};
-ghost use Rattle.theory_edge.specs.Files.{FilesTold, IsRead, one_more, faults_after};
+ghost use Rattle.theory_edge.specs.Files.{FilesTold, IsRead, faults_after};
 
 use std::alloc::{AllocError, AllocFailed, Global};
 use std::error::Error;

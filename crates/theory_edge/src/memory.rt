@@ -1,6 +1,6 @@
 ghost use Rattle.std.specs.Prelude.{◌≡◌, ◌⊎◌, ℕ, ◌≤◌, ◌↔◌, List, [], ◌∷◌, ◌++◌, map, Contains, option_copied, None, Some, IfOk, OnOk, OnErr, IsErr, IsTrue, string_bytes, vec_len, vec_capacity};
-ghost use Rattle.theory_meaning.specs.Faults.{HasCause, Rose, Took, TookPart};
-ghost use Rattle.theory_edge.specs.Files.{IsRead, one_more};
+ghost use Rattle.theory_meaning.specs.Faults.{HasCause, Rose, Took, TookPart, one_more};
+ghost use Rattle.theory_edge.specs.Files.{IsRead};
 ghost use Rattle.theory_edge.specs.Memory.{MemFilesState, MemSinkState, unread, unwritten, entry_of, text_under, mem_texts, mem_told, mem_sink_told, ReadFails, FailsWhere, after_read, WriteFails, after_write};
 
 use crate::files::{Asked, EndFault, Files, count_after, front};

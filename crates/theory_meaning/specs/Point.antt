@@ -1,11 +1,21 @@
 -- Points: finite lists of names with fractions, where a name that isn't there has the value 0.
-use Rattle.std.specs.Prelude.{ℕ, pos, List, [], ◌∷◌, if◌then◌else◌}
+use Rattle.std.specs.Prelude.{◌≡◌, ℕ, pos, false, List, [], ◌∷◌, if◌then◌else◌}
 use Rattle.std.specs.Str.{bytes_eq}
 use Rattle.theory_meaning.specs.Fraction.{Fraction, whole}
 
 -- the bytes of a name
 abbrev pub Name : Type 0
 Name = List ℕ
+
+-- the name isn't listed
+abbrev pub IsNew : Name → List Name → Type 0
+IsNew n [] = Unit {0}
+IsNew n (m ∷ ns) = (bytes_eq n m ≡ false) × IsNew n ns
+
+-- each name is listed once
+abbrev pub AreDistinct : List Name → Type 0
+AreDistinct [] = Unit {0}
+AreDistinct (n ∷ ns) = IsNew n ns × AreDistinct ns
 
 -- names with their values
 abbrev pub Point : Type 0

@@ -41,7 +41,8 @@ pub enum Kind {
     Rare,
     /// A symbol with a constant coefficient in an equation first.
     Unit,
-    /// Signs that the facts allow are used first.
+    /// As `Unit`, but the fewest coefficients with symbols before the fewest atoms; simplified by
+    /// signs.
     Signed,
 }
 

@@ -11,4 +11,3 @@ pub mod Roots
 pub mod Tried
 pub mod ReadLines
 pub mod RowRules
-pub mod Asking

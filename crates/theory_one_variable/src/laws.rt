@@ -6,7 +6,6 @@ ghost use Rattle.theory_meaning.specs.Truth.{Meets, meets};
 ghost use Rattle.theory_meaning.specs.Sameness.{over};
 ghost use Rattle.theory_one_variable.specs.Candidates.{IsSteady, AreCandidates};
 ghost use Rattle.theory_one_variable.specs.Breakpoints.{AreBreakpoints};
-ghost use Rattle.theory_one_variable.specs.Asking.{SentencesAskOfTheModel};
 ghost use Rattle.theory_one_variable.specs.RightHalf.{WrittenHalvesAreRight};
 ghost use Rattle.theory_one_variable.specs.Affine.{IsAffine, AreAffine, KeepsAffine, SomeCandidatePasses, AffineClaimsAreSteady, OneValueDecides, NoCandidateNoPoint, SomePointSomeCandidate, letter, passing_of, half_claims, half_breakpoints, half_candidates, clash_claims, clash_breakpoints, clash_candidates};
 
@@ -74,9 +73,4 @@ pub fn clash_is_met_nowhere()
 /// What the method gives for affine claims about one name is true of every point.
 pub fn written_halves_are_right()
     ensures { WrittenHalvesAreRight }
-{}
-
-/// In a model without equations the sentences of a claim ask for its examples and counterexamples.
-pub fn sentences_ask_of_the_model()
-    ensures { SentencesAskOfTheModel }
 {}

@@ -18,8 +18,8 @@ mod trial;
 pub use halves::half;
 pub use laws::{
     affine_claims_are_steady, clash_is_met_nowhere, half_has_candidates, half_is_found,
-    no_candidate_no_point, one_value_decides, sentences_ask_of_the_model, some_candidate_passes,
-    some_expressions_are_affine, some_point_some_candidate, written_halves_are_right,
+    no_candidate_no_point, one_value_decides, some_candidate_passes, some_expressions_are_affine,
+    some_point_some_candidate, written_halves_are_right,
 };
 pub use lines::{NotOneVariable, one_variable};
 pub use text::{Atom, Role, Row, Side, Term, Text};

@@ -31,6 +31,13 @@ impl Point {
         }
     }
 
+    /// The point of these entries; of those of one name the first counts.
+    pub fn from_entries(entries: Vec<(Name, Frac)>) -> Self
+        ensures { result ≡ entries.items }
+    {
+        Point { entries }
+    }
+
     /// The value of a name, 0 for one that isn't there.
     pub fn value(&self, name: &Name) -> Frac
         ensures { result ≡ value_at self.now name.now }

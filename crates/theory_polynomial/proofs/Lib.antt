@@ -6,4 +6,5 @@ pub mod RestrictionLaws
 pub mod FreeLaws
 pub mod SignLaws
 pub mod TurnedLaws
+pub mod CommonParts
 pub mod SingleForms
