@@ -35,11 +35,11 @@ restriction_stays_free : (z y : ℕ) (c : Fraction) (P m : List Monomial) → Is
 restriction_stays_free z y c P m h w =
     lacks_is_free y m w.2 (primitive_lacks y (restriction_step z c P (degree_in z P)) m (step_lacks z y c P (degree_in z P) (free_terms y P h)) w)
 
-abbrev Among : ℕ → List (ℕ × Fraction) → Type 0
+abbrev pub Among : ℕ → List (ℕ × Fraction) → Type 0
 Among y [] = ⊥
 Among y (a ∷ vs) = (y ≡ a.0) ⊎ Among y vs
 
-at_values_free : (y : ℕ) (vs : List (ℕ × Fraction)) (P r : List Monomial) → IsAtValues vs P r → IsFreeOf y P ⊎ Among y vs → IsFreeOf y r
+pub at_values_free : (y : ℕ) (vs : List (ℕ × Fraction)) (P r : List Monomial) → IsAtValues vs P r → IsFreeOf y P ⊎ Among y vs → IsFreeOf y r
 at_values_free y [] P r w (inl h) = subst (IsFreeOf y) (sym w) h
 at_values_free y [] P r w (inr h) = absurd h
 at_values_free y (a ∷ vs) P r w (inl h) = at_values_free y vs w.0 r w.2 (inl (restriction_stays_free a.0 y a.1 P w.0 h w.1))
@@ -148,7 +148,7 @@ module _ (n x : ℕ) (v : Fraction) (q : Values) where
     pub ordered : IsPolynomial P
     pub others : (y : ℕ) → (degree_in y P ≡ 0 → ⊥) → (x ≡ y → ⊥) → Among y (other_values n x q)
 
-  free_or_among : (P : List Monomial) (y : ℕ) → IsReady P → (x ≡ y → ⊥) → IsFreeOf y P ⊎ Among y (other_values n x q)
+  pub free_or_among : (P : List Monomial) (y : ℕ) → IsReady P → (x ≡ y → ⊥) → IsFreeOf y P ⊎ Among y (other_values n x q)
   free_or_among P y h d = elim (cases_Bool (degree_in y P == 0)) [
     | inl none_there ↦ inl (grind (arith, none_there))
     | inr some_there ↦ inr (h.others y (λ e. grind (arith, some_there, e)) d)
@@ -194,7 +194,7 @@ module _ (n x : ℕ) (v : Fraction) (q : Values) where
     some_at_values (more F Fs) Rs g h w =
         ap (some_by (reading_at (only_at x v))) w.4 ∙ ap₂ ◌||◌ (formula_at_values F w.0 g h.0 w.2) (some_at_values Fs w.1 g h.1 w.3)
 
-  is_ready : (P : List Monomial) (T : Signs) → IsAtomPolynomial P → ((y : ℕ) → n ≤ y → IsFreeOf y P) → IsReady P
+  pub is_ready : (P : List Monomial) (T : Signs) → IsAtomPolynomial P → ((y : ℕ) → n ≤ y → IsFreeOf y P) → IsReady P
   is_ready P T proper over = record {
     ordered = proper.canonical.ordered;
     others = λ y some d. elim (cases_Bool (nat_lt y n)) [

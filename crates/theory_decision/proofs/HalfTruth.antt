@@ -1,6 +1,6 @@
 -- A written half is right.
 use Rattle.std.proofs.Common.{◌≤◌, length, List, sym, ◌∙◌, subst, inl, inr}
-use Rattle.theory_meaning.specs.Point.{Name}
+use Rattle.theory_meaning.specs.Point.{Name, AreDistinct}
 use Rattle.theory_meaning.specs.Tree.{Claim}
 use Rattle.theory_meaning.specs.Truth.{Meets}
 use Rattle.theory_meaning.specs.Half.{Half, IsRightHalf}
@@ -12,7 +12,7 @@ use Rattle.theory_decision.specs.Witness.{IsOver}
 use Rattle.theory_lowering.proofs.LoweredLaws.{lowered_truth}
 use Rattle.theory_meaning.specs.declared.words.Kind.{Kind}
 use Rattle.theory_decision.specs.Outcomes.{Outcome, hits_by, empty, failed_by, IsSearch}
-use Rattle.theory_decision.specs.Answers.{named, AreDistinct, Lowering, refused, lowered, IsLowering, IsHalfBy, IsHalfOf, IsWrittenHalf}
+use Rattle.theory_decision.specs.Answers.{named, Lowering, refused, lowered, IsLowering, IsHalfBy, IsHalfOf, IsWrittenHalf}
 use Rattle.theory_lowering.proofs.LoweredAtoms.{lowered_proper, lowered_free}
 use Rattle.theory_decision.proofs.OutcomeTruth.{empty_has_none, hit_has_one}
 use Rattle.theory_decision.proofs.HitPaths.{search_path}

@@ -1,5 +1,4 @@
 pub mod CandidateLaws
-pub mod CommonParts
 pub mod KeptSymbols
 pub mod AtomFacts
 pub mod Findings
@@ -21,6 +20,8 @@ pub mod PickExists
 pub mod WorkedRuns
 pub mod NamedPoints
 pub mod HalfTruth
+pub mod EngineAnswers
+pub mod StuckAtoms
 pub mod RegionTruth
 pub mod AlikeValues
 pub mod OneWitness

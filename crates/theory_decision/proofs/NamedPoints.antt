@@ -5,12 +5,12 @@ use Rattle.std.specs.Str.{bytes_eq}
 use Rattle.std.proofs.lemmas.Bool.{cases_Bool}
 use Rattle.std.proofs.lemmas.Slice.Eq.{bytes_eq-Decides}
 use Rattle.theory_meaning.specs.Fraction.{Fraction, IsSame}
-use Rattle.theory_meaning.specs.Point.{Name, Point, value_at}
+use Rattle.theory_meaning.specs.Point.{Name, Point, value_at, IsNew, AreDistinct}
 use Rattle.theory_meaning.proofs.OrderLaws.{same_itself}
 use Rattle.theory_polynomial.specs.PolynomialValue.{Values, first_of, rest_of, symbol_at}
 use Rattle.theory_formula.specs.Formula.{Formula, truth_at}
 use Rattle.theory_lowering.specs.Lowered.{values_of}
-use Rattle.theory_decision.specs.Answers.{named, IsNew, AreDistinct}
+use Rattle.theory_decision.specs.Answers.{named}
 use Rattle.theory_decision.specs.Witness.{IsOver}
 use Rattle.theory_formula.proofs.ReadSymbols.{truth_reads}
 use Rattle.theory_decision.proofs.AtomFacts.{occurs_not_free}

@@ -11,7 +11,7 @@ use Rattle.theory_decision.proofs.CandidateLaws.{Contains-first, Contains-rest}
 use Rattle.theory_polynomial.specs.Polynomial.{Monomial, degree_in}
 use Rattle.theory_polynomial.specs.PolynomialValue.{Values, restriction_step}
 use Rattle.theory_polynomial.proofs.SingleForms.{primitive_single}
-use Rattle.theory_decision.proofs.CommonParts.{HaveCommonPart, InRatio, part_within}
+use Rattle.theory_polynomial.proofs.CommonParts.{HaveCommonPart, InRatio, part_within}
 use Rattle.theory_polynomial.proofs.PrimitiveLaws.{without_factor}
 use Rattle.theory_formula.specs.SignCondition.{IsAtomOf}
 use Rattle.theory_formula.proofs.ConditionLaws.{condition_single}
@@ -141,10 +141,10 @@ witness_single n (s ∷ path) given taken p q w v =
     added_single (is_one_of w.0 s.symbol) n s w.0 given taken w.1 p q w.3 there
 
 -- where it adds one nothing passes a limit
-abbrev IsWideHere : ℕ → Step → Values → Type 0
+abbrev pub IsWideHere : ℕ → Step → Values → Type 0
 IsWideHere n s q = IsWideStep n s q ⊎ ((v : Fraction) × IsPickAt n s q (Some v) × IsWide v)
 
-value_not_wide : (n : ℕ) (s : Step) (q : Values) (v : Fraction) → IsValue n s q v → IsWideHere n s q → ⊥
+pub value_not_wide : (n : ℕ) (s : Step) (q : Values) (v : Fraction) → IsValue n s q v → IsWideHere n s q → ⊥
 value_not_wide n s q v h (inl k) = h.narrow k
 value_not_wide n s q v h (inr k) =
     let picked : IsSame h.picked k.0 = pick_at_single n s q (Some h.picked) (Some k.0) h.pick k.1 in

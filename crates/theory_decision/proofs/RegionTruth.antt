@@ -3,7 +3,7 @@ use Rattle.std.proofs.Common.{◌≡◌, ℕ, ◌≤◌, length, Bool, true, fal
 use Rattle.std.specs.Prelude.{◌↔◌, ◌==◌, ◌||◌, map, IsTrue}
 use Rattle.std.proofs.lemmas.Bool.{cases_Bool}
 use Rattle.theory_meaning.specs.Fraction.{Fraction, IsSame}
-use Rattle.theory_meaning.specs.Point.{Name, Point, value_at}
+use Rattle.theory_meaning.specs.Point.{Name, Point, value_at, AreDistinct}
 use Rattle.theory_meaning.specs.Tree.{Claim, never}
 use Rattle.theory_meaning.specs.Truth.{truth_of, Meets}
 use Rattle.theory_polynomial.specs.Polynomial.{IsFreeOf}
@@ -21,7 +21,7 @@ use Rattle.theory_meaning.specs.declared.words.Kind.{Kind}
 use Rattle.theory_decision.specs.Choice.{Symbols, is_one_of}
 use Rattle.theory_decision.specs.Outcomes.{Leaves, all_of, true_everywhere, failed_before, AreLeaves}
 use Rattle.theory_decision.specs.Regions.{AgreeOn, IsTrueFor}
-use Rattle.theory_decision.specs.Answers.{named, AreDistinct, AreListedNames, AgreeAt, condition_of, Lowering, refused, lowered, IsLowering, known, region_by, IsRegionOf}
+use Rattle.theory_decision.specs.Answers.{named, AreListedNames, AgreeAt, condition_of, Lowering, refused, lowered, IsLowering, known, region_by, IsRegionOf}
 use Rattle.theory_lowering.proofs.LoweredAtoms.{lowered_proper}
 use Rattle.theory_decision.proofs.OutcomeTruth.{leaves_are_right, everywhere_is_right}
 use Rattle.theory_decision.proofs.NamedPoints.{named_symbol}

@@ -58,7 +58,7 @@ not_both false e f = cc
 not_same : (x y : ℕ) → (x ≡ y → ⊥) → x == y ≡ false
 not_same x y n = elim (cases_Bool (x == y)) [ inl e ↦ absurd (n (grind (arith, e))) | inr e ↦ e ]
 
-not_free : (y : ℕ) (F : Formula) → occurs F y ≡ true → IsFree y F → ⊥
+pub not_free : (y : ℕ) (F : Formula) → occurs F y ≡ true → IsFree y F → ⊥
 not_free y F e h = not_both (occurs F y) e (no_row y (atoms_of F) (rows_of_atoms (λ P S. IsFreeOf y P) F h))
 
 -- the symbols that have a value occur in the formula

@@ -1,6 +1,5 @@
 -- The half of a list of claims and the condition on some names, as they are written. Source: this project's own.
-use Rattle.std.specs.Prelude.{◌≡◌, ◌⊎◌, ◌<◌, false, List, [], ◌∷◌, map, length, slice_index_or}
-use Rattle.std.specs.Str.{bytes_eq}
+use Rattle.std.specs.Prelude.{◌≡◌, ◌⊎◌, ◌<◌, List, [], ◌∷◌, map, length, slice_index_or}
 use Rattle.theory_meaning.specs.declared.words.Kind.{Kind}
 use Rattle.theory_meaning.specs.Fraction.{IsSame}
 use Rattle.theory_meaning.specs.Point.{Name, Point, value_at}
@@ -23,16 +22,6 @@ use Rattle.theory_decision.specs.Witness.{IsWitness, IsWideWitness}
 abbrev pub named : List Name → Values → Point
 named [] p = []
 named (n ∷ ns) p = (n, first_of p) ∷ named ns (rest_of p)
-
--- the name isn't listed
-abbrev pub IsNew : Name → List Name → Type 0
-IsNew n [] = Unit {0}
-IsNew n (m ∷ ns) = (bytes_eq n m ≡ false) × IsNew n ns
-
--- each name is listed once
-abbrev pub AreDistinct : List Name → Type 0
-AreDistinct [] = Unit {0}
-AreDistinct (n ∷ ns) = IsNew n ns × AreDistinct ns
 
 -- the name of a stuck symbol, and the claim of its atom
 abbrev pub stuck_name : List Name → StuckAtom → Name × Claim

@@ -1,7 +1,7 @@
 -- What is found at a node of the search, before any branch of it is visited. Source: this project's own.
 use Rattle.std.specs.Prelude.{ℕ, ◌||◌, Bool, nat_lt, if◌then◌else◌, List, [], ◌∷◌, length, flat_map, Option, None, Some}
 use Rattle.theory_meaning.specs.declared.words.Kind.{Kind}
-use Rattle.theory_polynomial.specs.Polynomial.{Monomial, degree_in}
+use Rattle.theory_polynomial.specs.Polynomial.{Monomial, degree_in, IsFreeOf}
 use Rattle.theory_formula.specs.declared.signs.Signs.{Signs}
 use Rattle.theory_formula.specs.Formula.{Formula, always, never}
 use Rattle.theory_formula.specs.FormulaAtoms.{atoms_of}
@@ -32,6 +32,19 @@ pub data Failure : Type 0 where
   large : Failure
   budget : Failure
   many_leaves : Failure
+
+-- the symbol occurs in none of these atoms
+abbrev pub AreFreeOf : ℕ → List StuckAtom → Type 0
+AreFreeOf y [] = Unit {0}
+AreFreeOf y (a ∷ atoms) = IsFreeOf y a.poly × AreFreeOf y atoms
+
+-- nor in those on which a search is stuck
+abbrev pub IsFreeFailure : ℕ → Failure → Type 0
+IsFreeFailure y (stuck atoms) = AreFreeOf y atoms
+IsFreeFailure y wide = Unit {0}
+IsFreeFailure y large = Unit {0}
+IsFreeFailure y budget = Unit {0}
+IsFreeFailure y many_leaves = Unit {0}
 
 -- a node: a formula, or a branch of which a cross product passes a limit
 pub data Node : Type 0 where

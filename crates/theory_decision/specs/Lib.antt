@@ -6,4 +6,5 @@ pub mod Outcomes
 pub mod Regions
 pub mod Witness
 pub mod Answers
+pub mod Engine
 pub mod WorkedSearches

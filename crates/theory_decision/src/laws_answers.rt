@@ -1,16 +1,25 @@
 ghost use Rattle.std.specs.Prelude.{◌≡◌, ◌≤◌, ◌↔◌, List, length, IsTrue};
 ghost use Rattle.theory_meaning.specs.declared.words.Kind.{Kind};
+ghost use Rattle.theory_meaning.specs.Deciding.{IsHalf};
 ghost use Rattle.theory_meaning.specs.Half.{Half, IsRightHalf};
-ghost use Rattle.theory_meaning.specs.Point.{Name, Point};
+ghost use Rattle.theory_meaning.specs.Point.{Name, Point, AreDistinct};
 ghost use Rattle.theory_meaning.specs.Tree.{Claim};
 ghost use Rattle.theory_meaning.specs.Truth.{truth_of, Meets};
 ghost use Rattle.theory_lowering.specs.LoweringLimits.{AreListed, IsListedClaim};
-ghost use Rattle.theory_decision.specs.Answers.{AreDistinct, AreListedNames, AgreeAt, Region, known, IsWrittenHalf, IsWrittenRegion};
+ghost use Rattle.theory_decision.specs.Answers.{AreListedNames, AgreeAt, Region, known, IsWrittenHalf, IsWrittenRegion};
+ghost use Rattle.theory_decision.specs.Engine.{engine};
 
 /// What is written of a half is true of all points.
 pub fn a_written_half_is_right()
     ensures { (kind : Kind) (ns : List Name) (cs : List Claim) (h : Half) → length ns ≤ 32 →
         AreListed ns cs → AreDistinct ns → IsWrittenHalf kind ns cs h → IsRightHalf cs h }
+{}
+
+/// An engine may answer it.
+pub fn an_engine_may_answer_a_written_half()
+    ensures { (kind : Kind) (ns : List Name) (cs : List Claim) (h : Half) → length ns ≤ 32 →
+        AreListed ns cs → AreDistinct ns → IsWrittenHalf kind ns cs h →
+        IsHalf engine ns cs kind h }
 {}
 
 /// A known condition is true exactly where no point with these values meets the claims.

@@ -2,11 +2,11 @@ ghost use Rattle.std.specs.Prelude.{◌≡◌, ◌↔◌, ℕ, List, [], Some};
 ghost use Rattle.theory_meaning.specs.declared.words.Kind.{Kind};
 ghost use Rattle.theory_polynomial.specs.PolynomialValue.{Values};
 ghost use Rattle.theory_formula.specs.Formula.{Formula, IsTrueAt, truth_at};
-ghost use Rattle.theory_formula.specs.Symbols.{IsProper};
+ghost use Rattle.theory_formula.specs.Symbols.{IsFree, IsProper};
 ghost use Rattle.theory_decision.specs.Choice.{Symbols, others};
-ghost use Rattle.theory_decision.specs.Finding.{Failure, Node};
+ghost use Rattle.theory_decision.specs.Finding.{Failure, Node, IsFreeFailure};
 ghost use Rattle.theory_decision.specs.Search.{Step, Progress, Run, goes_on, over, Visit, IsRun};
-ghost use Rattle.theory_decision.specs.Outcomes.{Outcome, Leaves, IsSearch, hits_by, empty, AreLeaves, all_of, true_everywhere};
+ghost use Rattle.theory_decision.specs.Outcomes.{Outcome, Leaves, IsSearch, hits_by, empty, failed_by, AreLeaves, all_of, true_everywhere};
 ghost use Rattle.theory_decision.specs.Regions.{AgreeOn, IsTrueFor, SomeIsTrueAt};
 
 /// An empty search shows that no point makes the formula true.
@@ -43,6 +43,12 @@ pub fn the_first_failure_counts()
         t.failure ≡ Some f }
     ensures over { (keep : Symbols) (kind : Kind) (f g : Failure) (d : ℕ) (N : Node)
         (s : Progress) → s.failure ≡ Some f → Visit keep kind d N s (over g) → g ≡ f }
+{}
+
+/// A search that fails is stuck on atoms of the symbols of its formula alone.
+pub fn a_failure_makes_no_symbol()
+    ensures { (y : ℕ) (kind : Kind) (F : Formula) (f : Failure) → IsFree y F →
+        IsSearch kind F (failed_by f) → IsFreeFailure y f }
 {}
 
 /// Where no symbol is kept no leaf is found.

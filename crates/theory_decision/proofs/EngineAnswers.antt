@@ -1,0 +1,42 @@
+-- A written half is one that an engine may answer.
+use Rattle.std.proofs.Common.{◌≤◌, length, List, inl, inr}
+use Rattle.theory_meaning.specs.declared.words.Kind.{Kind}
+use Rattle.theory_meaning.specs.Deciding.{IsLicensed, IsHalf}
+use Rattle.theory_meaning.specs.Half.{Half, found, found_wide, absent, left}
+use Rattle.theory_meaning.specs.Point.{Name, AreDistinct}
+use Rattle.theory_meaning.specs.Tree.{Claim}
+use Rattle.theory_formula.specs.Formula.{Formula}
+use Rattle.theory_lowering.specs.LoweringLimits.{AreListed}
+use Rattle.theory_decision.specs.Outcomes.{Outcome, hits_by, empty, failed_by, IsSearch}
+use Rattle.theory_decision.specs.Answers.{Lowering, refused, lowered, IsLowering, IsHalfBy, IsHalfOf, IsWrittenHalf}
+use Rattle.theory_decision.specs.Engine.{engine}
+use Rattle.theory_decision.proofs.HalfTruth.{written_half_is_right}
+
+module _ (kind : Kind) (ns : List Name) (cs : List Claim) where
+  licensed_by : (F : Formula) (o : Outcome) (h : Half) → IsLowering ns cs (lowered F) → IsSearch kind F o → IsHalfBy ns o h
+      → IsLicensed engine ns cs kind h
+  licensed_by F o (found p) k s b = tt
+  licensed_by F o absent k s b = tt
+  licensed_by F (hits_by path) found_wide k s (inl b) = absurd cc
+  licensed_by F (hits_by path) found_wide k s (inr b) = (F, path, k, s, b.0)
+  licensed_by F empty found_wide k s b = absurd cc
+  licensed_by F (failed_by f) found_wide k s b = absurd cc
+  licensed_by F (hits_by path) (left c) k s (inl b) = absurd cc
+  licensed_by F (hits_by path) (left c) k s (inr b) = absurd cc
+  licensed_by F empty (left c) k s b = absurd cc
+  licensed_by F (failed_by f) (left c) k s b = (lowered F, k, (f, s, cc))
+
+  licensed_of : (l : Lowering) (h : Half) → IsLowering ns cs l → IsHalfOf kind ns l h → IsLicensed engine ns cs kind h
+  licensed_of (lowered F) h k b = licensed_by F b.0 h k b.1 b.2
+  licensed_of (refused c) (found p) k b = tt
+  licensed_of (refused c) absent k b = tt
+  licensed_of (refused c) found_wide k b = absurd cc
+  licensed_of (refused c) (left d) k b = (refused c, k, cc)
+
+pub engine_may_answer : (kind : Kind) (ns : List Name) (cs : List Claim) (h : Half) → length ns ≤ 32 → AreListed ns cs → AreDistinct ns
+    → IsWrittenHalf kind ns cs h → IsHalf engine ns cs kind h
+engine_may_answer kind ns cs h few listed distinct w = record {
+  right = written_half_is_right kind ns cs h few listed distinct w;
+  licensed = licensed_of kind ns cs w.0 h w.1 w.2;
+  allowed = w;
+}
