@@ -90,7 +90,7 @@ impl Poly {
     }
 
     /// The polynomial of terms in the fixed order and within the limits.
-    pub(crate) fn from_kept(terms: Vec<Term>) -> Poly
+    pub fn from_kept(terms: Vec<Term>) -> Poly
         requires { IsKept terms.items }
         ensures { result ≡ terms.items }
     {

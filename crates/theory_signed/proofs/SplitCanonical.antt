@@ -143,7 +143,7 @@ left_places e c (t ∷ ts) h k =
       left_places e c ts h k.2,
     )
 
-left_canonical : (e : List ℕ) (P : List Monomial) → length e ≡ length (common_powers P) → IsUnder e (common_powers P) → IsCanonical P
+pub left_canonical : (e : List ℕ) (P : List Monomial) → length e ≡ length (common_powers P) → IsUnder e (common_powers P) → IsCanonical P
     → IsCanonical (with_powers e (without_powers (common_powers P) P))
 left_canonical e P l h k =
     let c : List ℕ = common_powers P in
@@ -187,7 +187,7 @@ above_set (suc k) (suc n) h = above_more (greatest_of (set (replicate n 0) k 1))
 symbol_ordered : (x : ℕ) → IsPolynomial (symbol_of x)
 symbol_ordered x = (record { nonzero = λ e. absurd cc; places = set_length x 32 1 }, tt, tt)
 
-symbol_canonical : (x : ℕ) → x < 32 → IsAtomPolynomial (symbol_of x)
+pub symbol_canonical : (x : ℕ) → x < 32 → IsAtomPolynomial (symbol_of x)
 symbol_canonical x h = record {
   canonical = record {
     ordered = symbol_ordered x;
@@ -208,17 +208,17 @@ odd_at_most zero = omega arith
 odd_at_most (suc zero) = omega arith
 odd_at_most (suc (suc n)) = two_more (odd_part n) n (odd_at_most n)
 
-odd_under : (c : List ℕ) → IsUnder (map odd_part c) c
+pub odd_under : (c : List ℕ) → IsUnder (map odd_part c) c
 odd_under [] = tt
 odd_under (n ∷ c) = (odd_at_most n, odd_under c)
 
-but_under : (x : ℕ) (e c : List ℕ) → IsUnder e c → IsUnder (all_but x e) c
+pub but_under : (x : ℕ) (e c : List ℕ) → IsUnder e c → IsUnder (all_but x e) c
 but_under x [] c h = tt
 but_under x (n ∷ e) [] h = absurd h
 but_under zero (n ∷ e) (m ∷ c) h = (omega arith, h.1)
 but_under (suc x) (n ∷ e) (m ∷ c) h = (h.0, but_under x e c h.1)
 
-but_length : (x : ℕ) (e : List ℕ) → length (all_but x e) ≡ length e
+pub but_length : (x : ℕ) (e : List ℕ) → length (all_but x e) ≡ length e
 but_length x [] = refl
 but_length zero (n ∷ e) = refl
 but_length (suc x) (n ∷ e) = ap suc (but_length x e)

@@ -11,10 +11,12 @@ mod formula;
 mod making;
 mod naming;
 mod negation;
+mod path;
 
 pub use atom::Atom;
 pub use formula::{Formula, Formulas};
 pub use making::{constant_sign, decision, make_atom};
 pub use naming::is_named;
 pub use negation::negate;
+pub use path::{Path, PathStep};
 pub use theory_formula::Signs;

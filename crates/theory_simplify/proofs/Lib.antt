@@ -4,4 +4,8 @@ mod PutLemmas
 mod WaitingLemmas
 mod FinishLemmas
 mod Weights
+mod SignLemmas
+mod PowerLemmas
+mod SplitLemmas
+mod SplitTrees
 mod FlatLemmas

@@ -10,7 +10,12 @@ use Rattle.theory_elimination.specs.Facts.{Facts, judged}
 use Rattle.theory_elimination.specs.Simplified.{Part, settled, condition, other, as_part, put_together, with_condition, gathered_behind, undecided, gathered, by_facts, as_judged}
 use Rattle.theory_simplify.specs.declared.drafts.Draft as lent
 use Rattle.theory_simplify.specs.Drafts.{draft_of}
-use Rattle.theory_simplify.specs.Parts.{parts_of, flat_parts, all_flat_parts, open_parts, opened}
+use Rattle.theory_signed.specs.PossibleSigns.{judged_by_signs}
+use Rattle.theory_signed.specs.Signed.{by_signs, facts_beside}
+use Rattle.theory_simplify.specs.declared.judgement.Judgement.{Judgement}
+use Rattle.theory_simplify.specs.declared.judgement.Judgement.TheVariants.{ByFacts, BySigns}
+use Rattle.theory_simplify.specs.Parts.{parts_of, flat_parts, all_flat_parts, opened}
+use Rattle.theory_simplify.specs.Judged.{open_parts, open_beside, open_for}
 
 abbrev Parts : Type 0
 Parts = List (Part plain.Formula)
@@ -174,11 +179,28 @@ open_at_most all K ps =
     (λ qs. weaker (undecided all (map (by_facts K) qs)) (parts_weight (map (by_facts K) qs)) (parts_weight qs)
     (let same = facts_weight K qs in omega arith) (undecided_weight all (map (by_facts K) qs)))
 
--- what the facts leave open weighs at most as much as the members
-pub open_weight : (all : Bool) (K : Facts) (Fs : plain.Formulas) (flat left : Parts) → flat ≡ all_flat_parts all Fs
-    → open_parts all K flat ≡ Some left → parts_weight left ≤ weights Fs
-open_weight all K Fs flat left is found =
-    let h = open_at_most all K flat in
+signs_weight : (K : Facts) (ps : Parts) → parts_weight (map (by_signs K) ps) ≡ parts_weight ps
+signs_weight K [] = refl
+signs_weight K (settled b ∷ ps) = ap (λ (n : ℕ). 0 + n) (signs_weight K ps)
+signs_weight K (condition P S ∷ ps) = ap₂ ◌+◌ (judged_weight P S (judged_by_signs K P S)) (signs_weight K ps)
+signs_weight K (other F ∷ ps) = ap (λ (n : ℕ). weight F + n) (signs_weight K ps)
+
+beside_at_most : (all : Bool) (K : Facts) (ps : Parts) → IsAtMost (open_beside all K ps) (parts_weight ps)
+beside_at_most all K ps =
+    let L = facts_beside all ps K in
+    weaker (undecided all (map (by_signs L) ps)) (parts_weight (map (by_signs L) ps)) (parts_weight ps)
+    (let same = signs_weight L ps in omega arith) (undecided_weight all (map (by_signs L) ps))
+
+open_for_at_most : (way : Judgement) (all : Bool) (K : Facts) (ps : Parts) → IsAtMost (open_for way all K ps) (parts_weight ps)
+open_for_at_most ByFacts all K ps = open_at_most all K ps
+open_for_at_most BySigns all K ps =
+    then_at_most (open_parts all K ps) (open_beside all K) (parts_weight ps) (open_at_most all K ps) (beside_at_most all K)
+
+-- what is left open weighs at most as much as the members
+pub open_weight : (way : Judgement) (all : Bool) (K : Facts) (Fs : plain.Formulas) (flat left : Parts) → flat ≡ all_flat_parts all Fs
+    → open_for way all K flat ≡ Some left → parts_weight left ≤ weights Fs
+open_weight way all K Fs flat left is found =
+    let h = open_for_at_most way all K flat in
     let same = all_flat_weight all Fs in
     let weighs = ap parts_weight is in
     let below : parts_weight left ≤ parts_weight flat = subst (λ o. IsAtMost o (parts_weight flat)) found h in

@@ -2,14 +2,15 @@
 use Rattle.std.specs.Prelude.{◌≡◌, ℕ, suc, Bool, true, false, List, [], ◌∷◌, ◌++◌, map, Option, None, Some, Result, Ok, Err, if◌then◌else◌}
 use Rattle.std.specs.declared.vec.Vec.{Vec}
 use Rattle.std.specs.Global.{Global}
-use Rattle.std.specs.Option.{option_map, option_and_then}
+use Rattle.std.specs.Option.{option_map}
 use Rattle.theory_formula.specs.declared.signs.Signs.{Signs}
 use Rattle.theory_polynomial.specs.Terms.{Monomial}
 use Rattle.theory_formula.specs.Formula as plain
 use Rattle.theory_formula.specs.Formula.{conjunction, disjunction, none, more}
 use Rattle.theory_elimination.specs.SameFormula.{is_same_poly}
-use Rattle.theory_elimination.specs.Facts.{Fact, Facts, judged}
-use Rattle.theory_elimination.specs.Simplified.{Part, Waiting, settled, condition, other, as_part, by_facts, undecided, gathered, simplified_under, simplified_list, all_parts_of}
+use Rattle.theory_elimination.specs.Facts.{Fact, Facts}
+use Rattle.theory_elimination.specs.Judging.{Judging}
+use Rattle.theory_elimination.specs.Simplified.{Part, Waiting, settled, condition, other, as_part, simplified_by, simplified_list_by, all_parts_by}
 use Rattle.theory_signs.specs.Condition.{Condition}
 use Rattle.theory_simplify.specs.declared.drafts.Draft.{Draft}
 use Rattle.theory_simplify.specs.Drafts.{draft_of}
@@ -35,20 +36,20 @@ abbrev pub facts_of : List Condition → Facts
 facts_of known = map fact_of known
 
 -- a list waits for facts
-abbrev pub waiting_part : Part plain.Formula → Waiting
-waiting_part (settled b) = settled b
-waiting_part (condition P S) = condition P S
-waiting_part (other F) = other (λ K. simplified_under K F)
+abbrev pub waiting_part : Judging → Part plain.Formula → Waiting
+waiting_part J (settled b) = settled b
+waiting_part J (condition P S) = condition P S
+waiting_part J (other F) = other (λ K. simplified_by J K F)
 
 -- each list among the members waits for facts
-abbrev pub waiting : List (Part plain.Formula) → List Waiting
-waiting ps = map waiting_part ps
+abbrev pub waiting : Judging → List (Part plain.Formula) → List Waiting
+waiting J ps = map (waiting_part J) ps
 
 -- a list simplified under facts; what is no list stands
-abbrev pub member_form : Facts → plain.Formula → plain.Formula
-member_form K (conjunction Fs) = simplified_list true K (all_parts_of true Fs)
-member_form K (disjunction Fs) = simplified_list false K (all_parts_of false Fs)
-member_form K F = F
+abbrev pub member_form : Judging → Facts → plain.Formula → plain.Formula
+member_form J K (conjunction Fs) = simplified_list_by J true K (all_parts_by J true Fs)
+member_form J K (disjunction Fs) = simplified_list_by J false K (all_parts_by J false Fs)
+member_form J K F = F
 
 -- the members of nested lists of one kind as one list
 abbrev mutual
@@ -60,10 +61,6 @@ abbrev mutual
   pub all_flat_parts : Bool → plain.Formulas → List (Part plain.Formula)
   all_flat_parts all none = []
   all_flat_parts all (more F Fs) = flat_parts all F ++ all_flat_parts all Fs
-
--- the members that the facts leave open, before they wait for facts
-abbrev pub open_parts : Bool → Facts → List (Part plain.Formula) → Option (List (Part plain.Formula))
-open_parts all K ps = option_and_then (λ qs. undecided all (map (by_facts K) qs)) (gathered all ps)
 
 -- the set of an atom of the polynomial
 abbrev pub condition_on : List Monomial → Part plain.Formula → Option Signs
@@ -91,12 +88,6 @@ abbrev pub settled_truth : Part plain.Formula → Option Bool
 settled_truth (settled b) = Some b
 settled_truth (condition P S) = None
 settled_truth (other F) = None
-
--- what the facts say of a member
-abbrev pub judged_part : Facts → Part plain.Formula → Option Bool
-judged_part K (settled b) = None
-judged_part K (condition P S) = judged K P S
-judged_part K (other F) = None
 
 -- the members of a list of the kind, and else the formula itself
 abbrev pub opened : Bool → plain.Formula → Result plain.Formulas plain.Formula

@@ -1,10 +1,13 @@
 ghost use Rattle.std.specs.Prelude.{◌≡◌, OnOk, IfOk};
-ghost use Rattle.theory_elimination.specs.Facts.{known_set, is_within, judged, with_fact};
+ghost use Rattle.std.specs.List.{filter};
+ghost use Rattle.theory_elimination.specs.Facts.{known_set, is_within, judged, judged_by, with_fact};
 ghost use Rattle.theory_elimination.specs.Simplified.{with_conditions, facts_within};
+ghost use Rattle.theory_signed.specs.Signed.{is_on_symbol, facts_beside};
 ghost use Rattle.theory_simplify.specs.Parts.{facts_of, parts_of, known_at};
 
 use crate::drafts::Draft;
 use crate::lent::LentAtom;
+use crate::symbols::is_symbol;
 use std::alloc::Global;
 use theory_meaning::Sign;
 use theory_points::NoMemory;
@@ -17,10 +20,17 @@ pub type Facts<'a> = Vec<LentAtom<'a>>;
 pub fn judged(facts: &[LentAtom<'_>], atom: &LentAtom<'_>) -> Option<bool>
     ensures { result ≡ judged (facts_of facts.now) atom.now.poly atom.now.signs }
 {
-    let known = known_set(facts, atom)?;
-    if known.meet(atom.signs()).is_none() {
+    judged_by(atom.signs(), known_set(facts, atom))
+}
+
+/// What a known set says of a condition with a set of signs; None where it leaves it open.
+pub fn judged_by(signs: Signs, known: Option<Signs>) -> Option<bool>
+    ensures { result ≡ judged_by signs known }
+{
+    let known = known?;
+    if known.meet(signs).is_none() {
         Some(false)
-    } else if is_within(known, atom.signs()) {
+    } else if is_within(known, signs) {
         Some(true)
     } else {
         None
@@ -65,6 +75,24 @@ pub fn facts_within<'a>(
     Ok(within)
 }
 
+/// The facts, and in a conjunction also its conditions on single symbols.
+pub fn facts_beside<'a>(
+    alloc: Global,
+    all: bool,
+    facts: &[LentAtom<'a>],
+    members: &[Draft<'a>],
+) -> Result<Facts<'a>, NoMemory>
+    ensures { IfOk result (λ K.
+        facts_of K.items ≡ facts_beside all (parts_of members.now) (facts_of facts.now)) }
+{
+    let mut beside = copied(alloc, facts)?;
+    if !all {
+        return Ok(beside);
+    }
+    add_conditions_on_symbols(&mut beside, members)?;
+    Ok(beside)
+}
+
 fn copied<'a>(alloc: Global, facts: &[LentAtom<'a>]) -> Result<Facts<'a>, NoMemory>
     ensures { IfOk result (λ K. K.items ≡ facts.now) }
 {
@@ -82,6 +110,23 @@ fn add_conditions<'a>(facts: &mut Facts<'a>, members: &[Draft<'a>]) -> Result<()
     for member in members {
         if let Draft::Atom(atom) = member {
             add_fact(facts, atom)?;
+        }
+    }
+    Ok(())
+}
+
+fn add_conditions_on_symbols<'a>(
+    facts: &mut Facts<'a>,
+    members: &[Draft<'a>],
+) -> Result<(), NoMemory>
+    ensures { OnOk result (facts_of facts.new.items
+        ≡ with_conditions (filter is_on_symbol (parts_of members.now)) (facts_of facts.old.items)) }
+{
+    for member in members {
+        if let Draft::Atom(atom) = member {
+            if is_symbol(atom.poly().terms()) {
+                add_fact(facts, atom)?;
+            }
         }
     }
     Ok(())

@@ -1,9 +1,11 @@
 ghost use Rattle.std.specs.Prelude.{◌≡◌, [], IfOk, map};
-ghost use Rattle.theory_elimination.specs.Simplified.{put_together, with_condition, gathered_behind, undecided, gathered, by_facts};
-ghost use Rattle.theory_simplify.specs.Parts.{part_of, parts_of, facts_of, open_parts, condition_on, held_at, settled_truth, judged_part, AreParts, IsPutIn};
+ghost use Rattle.theory_elimination.specs.Simplified.{put_together, with_condition, gathered_behind, undecided, gathered};
+ghost use Rattle.theory_simplify.specs.Parts.{part_of, parts_of, facts_of, condition_on, held_at, settled_truth, AreParts, IsPutIn};
+ghost use Rattle.theory_simplify.specs.Judged.{by_source, open_parts, open_beside, open_for, judged_part};
 
 use crate::drafts::{Draft, Drafts, decision};
-use crate::facts::judged;
+use crate::facts::facts_beside;
+use crate::judgement::{Judgement, Source, judged_from};
 use crate::lent::LentAtom;
 use std::alloc::Global;
 use theory_points::NoMemory;
@@ -23,8 +25,25 @@ pub fn gathered<'a>(
     }
 }
 
-/// The members that the facts leave open; None where the whole is decided.
+/// The members that a way to judge leaves open; None where the whole is decided.
 pub fn left_open<'a>(
+    alloc: Global,
+    judgement: Judgement,
+    all: bool,
+    facts: &[LentAtom<'a>],
+    members: Drafts<'a>,
+) -> Result<Option<Drafts<'a>>, NoMemory>
+    ensures { IfOk result
+        (AreParts (open_for judgement all (facts_of facts.now) (parts_of members.entry.items))) }
+{
+    match (judgement, open_by_facts(alloc, all, facts, members)?) {
+        (Judgement::BySigns, Some(left)) => open_by_signs(alloc, all, facts, left),
+        (_, left) => Ok(left),
+    }
+}
+
+/// The members, put together, that the facts on their polynomials leave open.
+fn open_by_facts<'a>(
     alloc: Global,
     all: bool,
     facts: &[LentAtom<'a>],
@@ -34,42 +53,62 @@ pub fn left_open<'a>(
         (AreParts (open_parts all (facts_of facts.now) (parts_of members.entry.items))) }
 {
     match gathered(alloc, all, members)? {
-        Some(members) => undecided(alloc, all, judged_all(alloc, facts, members)?),
+        Some(members) => undecided(
+            alloc,
+            all,
+            judged_all(alloc, Source::Polynomial, facts, members)?,
+        ),
         None => Ok(None),
     }
+}
+
+/// The members that the facts on their symbols leave open, with those beside them in a conjunction.
+fn open_by_signs<'a>(
+    alloc: Global,
+    all: bool,
+    facts: &[LentAtom<'a>],
+    members: Drafts<'a>,
+) -> Result<Option<Drafts<'a>>, NoMemory>
+    ensures { IfOk result
+        (AreParts (open_beside all (facts_of facts.now) (parts_of members.entry.items))) }
+{
+    let beside = facts_beside(alloc, all, facts, &members)?;
+    let judged = judged_all(alloc, Source::Symbols, &beside, members)?;
+    undecided(alloc, all, judged)
 }
 
 /// The members with each atom decided of which the facts say something.
 fn judged_all<'a>(
     alloc: Global,
+    source: Source,
     facts: &[LentAtom<'a>],
     members: Drafts<'a>,
 ) -> Result<Drafts<'a>, NoMemory>
-    ensures { IfOk result (λ found.
-        parts_of found.items ≡ map (by_facts (facts_of facts.now)) (parts_of members.entry.items)) }
+    ensures { IfOk result (λ found. parts_of found.items
+        ≡ map (by_source source (facts_of facts.now)) (parts_of members.entry.items)) }
 {
     let mut all = Vec::new(alloc);
     for member in members {
-        all.push(judged_member(facts, member))?;
+        all.push(judged_member(source, facts, member))?;
     }
     Ok(all)
 }
 
-fn judged_member<'a>(facts: &[LentAtom<'a>], member: Draft<'a>) -> Draft<'a>
-    ensures { part_of result ≡ by_facts (facts_of facts.now) (part_of member.entry) }
+fn judged_member<'a>(source: Source, facts: &[LentAtom<'a>], member: Draft<'a>) -> Draft<'a>
+    ensures { part_of result ≡ by_source source (facts_of facts.now) (part_of member.entry) }
 {
-    match judged_truth(facts, &member) {
+    match judged_truth(source, facts, &member) {
         Some(truth) => decision(truth),
         None => member,
     }
 }
 
 /// What the facts say of a member; None where it isn't an atom.
-fn judged_truth(facts: &[LentAtom<'_>], member: &Draft<'_>) -> Option<bool>
-    ensures { result ≡ judged_part (facts_of facts.now) (part_of member.now) }
+fn judged_truth(source: Source, facts: &[LentAtom<'_>], member: &Draft<'_>) -> Option<bool>
+    ensures { result ≡ judged_part source (facts_of facts.now) (part_of member.now) }
 {
     match member {
-        Draft::Atom(atom) => judged(facts, atom),
+        Draft::Atom(atom) => judged_from(source, facts, atom),
         _ => None,
     }
 }

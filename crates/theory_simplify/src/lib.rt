@@ -1,6 +1,7 @@
 //! The simplification of formulas: the written form, with the same truth at every point.
 //!
-//! A contract sees a formula as its plain tree. `simplify` is the one call.
+//! A contract sees a formula as its plain tree. `simplify` judges atoms by what is known of their
+//! polynomials; `simplify_signed` splits them first, and judges by the signs of their symbols too.
 #![tactic(auto)]
 
 mod drafts;
@@ -9,8 +10,14 @@ mod finishing;
 mod flattening;
 mod gathering;
 mod hashes;
+mod judgement;
 mod lent;
+mod possible;
+mod powers;
 mod sameness;
+mod sign_rules;
 mod simplification;
+mod splitting;
+mod symbols;
 
-pub use simplification::simplify;
+pub use simplification::{simplify, simplify_signed};
