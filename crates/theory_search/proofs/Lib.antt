@@ -1,0 +1,5 @@
+pub mod AtomLemmas
+pub mod CandidateLemmas
+pub mod FindingLemmas
+pub mod VisitLemmas
+pub mod OutcomeLemmas

@@ -1,0 +1,7 @@
+pub mod Atoms
+pub mod Asked
+pub mod Candidacy
+pub mod Outcomes
+pub mod Right
+pub mod Runs
+pub mod Entered

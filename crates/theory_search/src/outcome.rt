@@ -1,0 +1,37 @@
+use theory_signs::{Atom, Path};
+
+/// The first atom in which the degree of a symbol is above 1.
+#[derive(Drop)]
+pub struct StuckAtom {
+    pub symbol: u8,
+    pub atom: Atom,
+}
+
+/// One for each symbol that occurs, upwards.
+pub type StuckAtoms = Vec<StuckAtom>;
+
+/// Why a search fails.
+#[derive(Drop)]
+pub enum Failure {
+    /// No symbol can be eliminated from a formula.
+    Stuck(StuckAtoms),
+    /// A cross product of a branch passes a limit.
+    Wide,
+    /// A simplified formula has more than 512 atoms, or lies deeper than 64.
+    Large,
+    /// 20,000 nodes were visited.
+    Budget,
+    /// There are more than 4,096 leaves, or more than 16,384 atoms in them.
+    ManyLeaves,
+}
+
+/// What a search gives.
+#[derive(Drop)]
+pub enum Outcome {
+    /// Some point makes the formula true.
+    Hit(Path),
+    /// No point does.
+    Empty,
+    /// The first failure that was met, where nothing was hit.
+    Failed(Failure),
+}
