@@ -1,0 +1,10 @@
+pub mod TriedLemmas
+pub mod LineLemmas
+pub mod RootLemmas
+pub mod PickLemmas
+pub mod RestrictionLemmas
+pub mod ValueLemmas
+pub mod OneSymbol
+pub mod StepLemmas
+pub mod PathLemmas
+pub mod PointLemmas
