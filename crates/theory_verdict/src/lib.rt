@@ -1,14 +1,16 @@
-//! Halves, verdicts, regions and answers.
+//! Halves, verdicts, regions and answers, and what decides halves.
 //!
 //! A question has two halves: is there an example, a point that meets the assumptions and the
 //! claim, and is there a counterexample, one that meets the assumptions and not the claim.
 //! Contracts see a half as the plain one of `theory_meaning` (`half_of` of `specs/Plain.antt`).
-//! Read `verdict_of` first.
+//! Read `verdict_of` first, then `Decider`.
 #![tactic(auto)]
 
 mod answer;
+mod decider;
 mod half;
 
 pub use answer::{Answer, Region};
+pub use decider::Decider;
 pub use half::{Cause, Half, StuckOn, StuckOns, verdict_of};
 pub use theory_meaning::{Kind, Verdict};

@@ -1,0 +1,38 @@
+ghost use Rattle.std.specs.Prelude.{◌≡◌, ℕ, ◌≤◌, length, IfOk};
+ghost use Rattle.theory_lowering.specs.LoweringLimits.{AreListed};
+ghost use Rattle.theory_meaning.specs.Deciding.{Meanings, IsHalf};
+ghost use Rattle.theory_meaning.specs.Faults.{one_more};
+ghost use Rattle.theory_meaning.specs.Point.{AreDistinct};
+ghost use Rattle.theory_syntax.specs.Plain.{claims_of};
+ghost use Rattle.theory_verdict.specs.Plain.{half_of};
+
+use crate::half::Half;
+use std::alloc::Global;
+use theory_meaning::Kind;
+use theory_points::NoMemory;
+use theory_syntax::Sentence;
+
+/// Decides whether some point meets a sentence; after want of memory it can be asked again.
+pub trait Decider {
+    /// What a value of this type may answer, whatever it has been asked before.
+    ghost meanings: { Meanings };
+
+    /// How often it was asked.
+    ghost asked: { Self → ℕ };
+
+    /// How often it was asked; the count stands still at 2^64 - 1.
+    fn runs(&self) -> u64
+        ensures { result ≡ asked self.now };
+
+    /// Whether some point meets the sentence, by an order of elimination.
+    fn half(&mut self, alloc: Global, sentence: &Sentence, kind: Kind) -> Result<Half, NoMemory>
+        requires few { length sentence.now.symbols ≤ 32 }
+        requires distinct { AreDistinct sentence.now.symbols }
+        requires listed { AreListed sentence.now.symbols
+            (claims_of sentence.now.conjuncts.items) }
+        // The half is right for all points, and one that the meanings allow.
+        ensures half { IfOk result (λ h. IsHalf meanings sentence.now.symbols
+            (claims_of sentence.now.conjuncts.items) kind (half_of h)) }
+        // A call counts as one, whatever it gives.
+        ensures counted { asked self.new ≡ one_more (asked self.old) };
+}
