@@ -1,6 +1,6 @@
--- A check of a file, from how it was read and what was told of its text; and a whole run, from such a check.
+-- A check of a file, from how it was read and what was told of its model; and a whole run, from such a check.
 use Rattle.std.proofs.Common.{◌≡◌, ℕ, List, [], ◌∷◌, ◌++◌, ◌≤◌, Some, Result, Ok, Err, inl, inr, ⊎_elim, refl, sym, ap, ◌∙◌, subst, arith, length, get_or, map}
-use Rattle.std.specs.Prelude.{codes}
+use Rattle.std.specs.Prelude.{codes, true, false, if◌then◌else◌}
 use Rattle.theory_meaning.specs.Faults.{Rose, one_more}
 use Rattle.theory_edge.specs.Files.{FilesTold, IsRead, ReadOnce}
 use Rattle.theory_edge.specs.Sinks.{SinkTold}
@@ -11,13 +11,15 @@ use Rattle.theory_cli.specs.declared.status.Status.{Status}
 use Rattle.theory_cli.specs.declared.status.Status.TheVariants as status
 use Rattle.theory_cli.specs.declared.running.Stop.{Stop}
 use Rattle.theory_cli.specs.declared.running.Stop.TheVariants.{Refused, Unread, Unwritten, NoMemory}
-use Rattle.theory_one_variable.specs.declared.text.Text.{Text}
-use Rattle.theory_one_variable.specs.Rows.{row_lines}
+use Rattle.theory_meaning.specs.Deciding.{Meanings}
+use Rattle.theory_syntax.specs.declared.text.Numbered as source
+use Rattle.theory_syntax.specs.Plain.{lines_of}
 use Rattle.theory_cli.specs.Command.{check_words, Given, no_command, not_asked, no_bytes, gave, AreWords, text_limit}
-use Rattle.theory_cli.specs.Ending.{IsCause, IsWritten, no_memory_line}
+use Rattle.theory_cli.specs.Ending.{IsCause, IsWritten, IsReported, no_memory_line}
 use Rattle.theory_cli.specs.Printed.{line_end}
-use Rattle.theory_cli.specs.Run.{Ends, AreMade, IsRun}
-use Rattle.theory_cli.specs.Running.{refusal_text, IsParsed, HasRead, GivesText, ReadsFile, stop_line, Checks, IsChecked, Reports}
+use Rattle.theory_cli.specs.Run.{Ends, AreMade, IsOutput, IsRun}
+use Rattle.theory_cli.specs.Running.{refusal_text, IsParsed, HasRead, GivesModel, ReadsFile, stop_line, ended_with, Checks, IsChecked, Reports}
+use Rattle.theory_cli.specs.Session.{some_undecided}
 use Rattle.theory_cli.specs.Taking.{TookReplies}
 use Rattle.theory_cli.specs.Telling.{Answers}
 use Rattle.theory_cli.proofs.RunLemmas.{runs}
@@ -58,7 +60,7 @@ module _ (name file : List ℕ) (before now : FilesTold) (is : name ≡ file) (s
   pub read_wanting : ReadsFile file before now (Err NoMemory)
   read_wanting = (no_bytes file, record { command = refl; read = tt; asked = read_once name file before now is same once asked later }, tt)
 
-  pub read_parsed : (bytes lent : List ℕ) (parsed : Result Text Stop) → lent ≡ bytes → IsRead before.texts name text_limit bytes →
+  pub read_parsed : (bytes lent : List ℕ) (parsed : Result (List source.Numbered) Stop) → lent ≡ bytes → IsRead before.texts name text_limit bytes →
       IsParsed lent parsed → ReadsFile file before now parsed
   read_parsed bytes lent parsed are read given = (
     gave file bytes,
@@ -70,10 +72,10 @@ module _ (name file : List ℕ) (before now : FilesTold) (is : name ≡ file) (s
     subst (λ (bs : List ℕ). IsParsed bs parsed) are given,
   )
 
-module _ (file : List ℕ) (files files' : FilesTold) (replies : List Reply) where
+module _ (m : Meanings) (file : List ℕ) (files files' : FilesTold) (replies : List Reply) where
   -- a check that stopped before its first reply
   unread_check : (out : SinkTold) (stop : Stop) (given : Given) → replies ≡ [] → HasRead file given files files' →
-      GivesText given files files' (Err stop) → Checks file given files files' replies out out (Err stop)
+      GivesModel given files files' (Err stop) → Checks m file given files files' replies out out (Err stop)
   unread_check out (Refused r) (gave f bytes) empty read gives = record {
     read = read;
     cause = (refusal_text r, gives);
@@ -107,49 +109,59 @@ module _ (file : List ℕ) (files files' : FilesTold) (replies : List Reply) whe
       record { read = read; cause = tt; made = inl empty; output = none_taken replies out empty; line = refl }
 
   pub not_read : (out : SinkTold) (stop : Stop) → replies ≡ [] → ReadsFile file files files' (Err stop) →
-      IsChecked file files files' replies out out (Err stop)
+      IsChecked m file files files' replies out out (Err stop)
   not_read out stop empty (given, read, gives) = (given, unread_check out stop given empty read gives)
 
-  -- a check whose file was read as a text
-  answered_check : (text : Text) (out out' : SinkTold) (told : Result (Unit {0}) Halt) (given : Given) → HasRead file given files files' →
-      GivesText given files files' (Ok text) →
-      Answers text.model text.variable (row_lines text.variable text.rows.items) replies out out' told →
-      Checks file given files files' replies out out' (stopped_by told)
-  answered_check text out out' told no_command read gives answers = absurd gives
-  answered_check text out out' told (not_asked f) read gives answers = absurd gives
-  answered_check text out out' told (no_bytes f) read gives answers = absurd gives
-  answered_check text out out' (Ok tt) (gave f bytes) read gives answers = record {
+  -- a check whose file was read as a model
+  answered_check : (model : List source.Numbered) (out out' : SinkTold) (told : Result (Unit {0}) Halt) (given : Given) → HasRead file given files files' →
+      GivesModel given files files' (Ok model) →
+      Answers m (lines_of model) replies out out' told →
+      Checks m file given files files' replies out out' (stopped_by told)
+  answered_check model out out' told no_command read gives answers = absurd gives
+  answered_check model out out' told (not_asked f) read gives answers = absurd gives
+  answered_check model out out' told (no_bytes f) read gives answers = absurd gives
+  answered_check model out out' (Ok tt) (gave f bytes) read gives answers = record {
+    read = read;
+    cause = elim (some_undecided replies) as (λ b. IsCause (gave f bytes) files files' (if b then status.Undecided else status.Finished)) [
+      | true ↦ tt
+      | false ↦ tt
+    ];
+    made = elim (some_undecided replies)
+        as (λ b. some_undecided replies ≡ b → AreMade m (gave f bytes) (if b then status.Undecided else status.Finished) replies) [
+          | true ↦ λ e. ((lines_of model, gives, answers.0), e)
+          | false ↦ λ e. ((lines_of model, gives, answers.0), e)
+        ] refl;
+    output = elim (some_undecided replies) as (λ b. IsOutput (if b then status.Undecided else status.Finished) replies out out') [
+      | true ↦ answers.1
+      | false ↦ answers.1
+    ];
+    line = tt;
+  }
+  answered_check model out out' (Err halt.Unwritten) (gave f bytes) read gives answers = record {
     read = read;
     cause = tt;
-    made = (text.model, text.variable, row_lines text.variable text.rows.items, gives, answers.0);
+    made = (lines_of model, gives, answers.0);
     output = answers.1;
     line = tt;
   }
-  answered_check text out out' (Err halt.Unwritten) (gave f bytes) read gives answers = record {
+  answered_check model out out' (Err halt.NoMemory) (gave f bytes) read gives answers = record {
     read = read;
     cause = tt;
-    made = (text.model, text.variable, row_lines text.variable text.rows.items, gives, answers.0);
-    output = answers.1;
-    line = tt;
-  }
-  answered_check text out out' (Err halt.NoMemory) (gave f bytes) read gives answers = record {
-    read = read;
-    cause = tt;
-    made = inr (text.model, text.variable, row_lines text.variable text.rows.items, gives, answers.0);
+    made = inr (lines_of model, gives, answers.0);
     output = answers.1;
     line = refl;
   }
 
-  pub answered : (text : Text) (out out' : SinkTold) (told : Result (Unit {0}) Halt) → ReadsFile file files files' (Ok text) →
-      Answers text.model text.variable (row_lines text.variable text.rows.items) replies out out' told →
-      IsChecked file files files' replies out out' (stopped_by told)
-  answered text out out' told (given, read, gives) answers = (given, answered_check text out out' told given read gives answers)
+  pub answered : (model : List source.Numbered) (out out' : SinkTold) (told : Result (Unit {0}) Halt) → ReadsFile file files files' (Ok model) →
+      Answers m (lines_of model) replies out out' told →
+      IsChecked m file files files' replies out out' (stopped_by told)
+  answered model out out' told (given, read, gives) answers = (given, answered_check model out out' told given read gives answers)
 
-  pub answered_halt : (text : Text) (out out' : SinkTold) (h k : Halt) → h ≡ k → ReadsFile file files files' (Ok text) →
-      Answers text.model text.variable (row_lines text.variable text.rows.items) replies out out' (Err h) →
-      IsChecked file files files' replies out out' (stopped_by (Err k))
-  answered_halt text out out' h k is read answers = answered text out out' (Err k) read
-      (subst (λ (j : Halt). Answers text.model text.variable (row_lines text.variable text.rows.items) replies out out' (Err j)) is answers)
+  pub answered_halt : (model : List source.Numbered) (out out' : SinkTold) (h k : Halt) → h ≡ k → ReadsFile file files files' (Ok model) →
+      Answers m (lines_of model) replies out out' (Err h) →
+      IsChecked m file files files' replies out out' (stopped_by (Err k))
+  answered_halt model out out' h k is read answers = answered model out out' (Err k) read
+      (subst (λ (j : Halt). Answers m (lines_of model) replies out out' (Err j)) is answers)
 
 -- want of memory may come in place of an end without replies
 wanting_cause : (file : List ℕ) (given : Given) (files files' : FilesTold) → AreWords (check_words file) given → IsCause given files files' status.NoMemory
@@ -158,45 +170,45 @@ wanting_cause file (not_asked f) files files' are = tt
 wanting_cause file (no_bytes f) files files' are = tt
 wanting_cause file (gave f bytes) files files' are = tt
 
-wanting_refused : (given : Given) (replies : List Reply) → AreMade given status.Refused replies → AreMade given status.NoMemory replies
-wanting_refused no_command replies empty = empty
-wanting_refused (not_asked f) replies empty = empty
-wanting_refused (no_bytes f) replies empty = empty
-wanting_refused (gave f bytes) replies empty = inl empty
+wanting_refused : (m : Meanings) (given : Given) (replies : List Reply) → AreMade m given status.Refused replies → AreMade m given status.NoMemory replies
+wanting_refused m no_command replies empty = empty
+wanting_refused m (not_asked f) replies empty = empty
+wanting_refused m (no_bytes f) replies empty = empty
+wanting_refused m (gave f bytes) replies empty = inl empty
 
-wanting_unread : (given : Given) (replies : List Reply) → AreMade given status.Unread replies → AreMade given status.NoMemory replies
-wanting_unread no_command replies empty = empty
-wanting_unread (not_asked f) replies empty = empty
-wanting_unread (no_bytes f) replies empty = empty
-wanting_unread (gave f bytes) replies empty = inl empty
+wanting_unread : (m : Meanings) (given : Given) (replies : List Reply) → AreMade m given status.Unread replies → AreMade m given status.NoMemory replies
+wanting_unread m no_command replies empty = empty
+wanting_unread m (not_asked f) replies empty = empty
+wanting_unread m (no_bytes f) replies empty = empty
+wanting_unread m (gave f bytes) replies empty = inl empty
 
-module _ (file : List ℕ) (before now : Ends) (replies : List Reply) (ended : Status) where
-  reported : (stop : Stop) (given : Given) → Checks file given before.files now.files replies before.out now.out (Err stop) →
-      Reports file stop before.err now.err ended → IsRun (check_words file) before now ended replies
+module _ (m : Meanings) (file : List ℕ) (before now : Ends) (replies : List Reply) (ended : Status) where
+  reported : (stop : Stop) (given : Given) → Checks m file given before.files now.files replies before.out now.out (Err stop) →
+      Reports file stop before.err now.err ended → IsRun m (check_words file) before now ended replies
   reported (Refused r) given c reports =
       ⊎_elim
-      (λ w. runs (check_words file) before now replies given status.Refused ended c.read.command c.read.read c.read.asked c.cause c.made c.output
+      (λ w. runs m (check_words file) before now replies given status.Refused ended c.read.command c.read.read c.read.asked c.cause c.made c.output
       (stop_line file (Refused r), c.line, w))
-      (λ w. runs (check_words file) before now replies given status.NoMemory ended c.read.command c.read.read c.read.asked
-      (wanting_cause file given before.files now.files c.read.command) (wanting_refused given replies c.made) c.output
+      (λ w. runs m (check_words file) before now replies given status.NoMemory ended c.read.command c.read.read c.read.asked
+      (wanting_cause file given before.files now.files c.read.command) (wanting_refused m given replies c.made) c.output
       (no_memory_line, refl, w)) reports
   reported Unread given c reports =
       ⊎_elim
-      (λ w. runs (check_words file) before now replies given status.Unread ended c.read.command c.read.read c.read.asked c.cause c.made c.output
+      (λ w. runs m (check_words file) before now replies given status.Unread ended c.read.command c.read.read c.read.asked c.cause c.made c.output
       (stop_line file Unread, c.line, w))
-      (λ w. runs (check_words file) before now replies given status.NoMemory ended c.read.command c.read.read c.read.asked
-      (wanting_cause file given before.files now.files c.read.command) (wanting_unread given replies c.made) c.output
+      (λ w. runs m (check_words file) before now replies given status.NoMemory ended c.read.command c.read.read c.read.asked
+      (wanting_cause file given before.files now.files c.read.command) (wanting_unread m given replies c.made) c.output
       (no_memory_line, refl, w)) reports
   reported Unwritten given c reports =
-      runs (check_words file) before now replies given status.Unwritten ended c.read.command c.read.read c.read.asked c.cause c.made c.output reports
+      runs m (check_words file) before now replies given status.Unwritten ended c.read.command c.read.read c.read.asked c.cause c.made c.output reports
   reported NoMemory given c reports =
       let written : IsWritten status.NoMemory no_memory_line before.err now.err ended = ⊎_elim (λ w. w) (λ w. w) reports in
-      runs (check_words file) before now replies given status.NoMemory ended c.read.command c.read.read c.read.asked c.cause c.made c.output
+      runs m (check_words file) before now replies given status.NoMemory ended c.read.command c.read.read c.read.asked c.cause c.made c.output
       (no_memory_line, refl, written)
 
   -- a run whose check stopped
-  pub reported_run : (stop : Stop) → IsChecked file before.files now.files replies before.out now.out (Err stop) →
-      Reports file stop before.err now.err ended → IsRun (check_words file) before now ended replies
+  pub reported_run : (stop : Stop) → IsChecked m file before.files now.files replies before.out now.out (Err stop) →
+      Reports file stop before.err now.err ended → IsRun m (check_words file) before now ended replies
   reported_run stop (given, c) reports = reported stop given c reports
 
 -- a file that can't be read is told so
@@ -207,11 +219,16 @@ told_unread file stop text before now ended is line written =
     (inl (subst (λ (t : List ℕ). IsWritten status.Unread t before now ended) line written))
 
 -- a run whose check came to its end
-pub finished_run : (file : List ℕ) (before now : Ends) (replies : List Reply) → now.err ≡ before.err →
-    IsChecked file before.files now.files replies before.out now.out (Ok tt) → IsRun (check_words file) before now status.Finished replies
-finished_run file before now replies stands (given, c) =
-    runs (check_words file) before now replies given status.Finished status.Finished c.read.command c.read.read c.read.asked c.cause c.made c.output
-    (refl, stands)
+pub finished_run : (m : Meanings) (file : List ℕ) (before now : Ends) (replies : List Reply) (ended : Status) → ended ≡ ended_with replies →
+    now.err ≡ before.err → IsChecked m file before.files now.files replies before.out now.out (Ok tt) → IsRun m (check_words file) before now ended replies
+finished_run m file before now replies ended is stands (given, c) =
+    runs m (check_words file) before now replies given (ended_with replies) ended c.read.command c.read.read c.read.asked c.cause c.made c.output
+    (subst (λ (s : Status). IsReported given (ended_with replies) before.err now.err s) (sym is)
+    (elim (some_undecided replies)
+    as (λ b. IsReported given (if b then status.Undecided else status.Finished) before.err now.err (if b then status.Undecided else status.Finished)) [
+      | true ↦ (refl, stands)
+      | false ↦ (refl, stands)
+    ]))
 
 -- two words
 pub two_words : {X : Type 0} (bytes : X → List ℕ) (words : List X) (a b : X) → length words ≡ 2 →

@@ -1,8 +1,9 @@
+pub mod ListedNames
 pub mod SessionLemmas
+pub mod AskingLemmas
 pub mod AnswerLemmas
 pub mod RunLemmas
 pub mod RefusalLemmas
 pub mod ExclusionLemmas
 pub mod CheckLemmas
 pub mod ProgramLemmas
-pub mod LineCounts

@@ -1,14 +1,16 @@
 -- A whole run, from what was given to it, the end that it reached and what was told on err.
 use Rattle.std.proofs.Common.{◌≡◌, ◌⊎◌, ℕ, ◌+◌, ◌-◌, ◌^◌, ◌≤◌, min, List, [], ◌∷◌, inl, inr, ⊎_elim, refl, sym, ◌∙◌, subst, arith}
+use Rattle.theory_meaning.specs.Deciding.{Meanings}
 use Rattle.theory_meaning.specs.Faults.{Rose}
 use Rattle.theory_edge.specs.Sinks.{SinkTold}
 use Rattle.theory_cli.specs.declared.reply.Reply.{Reply}
 use Rattle.theory_cli.specs.declared.status.Status.{Status}
-use Rattle.theory_cli.specs.declared.status.Status.TheVariants.{Finished, NoCommand, Refused, Unread, Unwritten, NoMemory}
+use Rattle.theory_cli.specs.declared.status.Status.TheVariants.{Finished, Undecided, NoCommand, Refused, Unread, Unwritten, NoMemory}
 use Rattle.theory_cli.specs.Command.{IsCommand, Given, no_command, not_asked, no_bytes, gave, AreWords, IsGiven, IsAsked}
+use Rattle.theory_cli.specs.Session.{AreReplies}
 use Rattle.theory_cli.specs.Taking.{TookReplies, CutInLast}
 use Rattle.theory_cli.specs.Ending.{IsCause, IsWritten, IsReported, no_command_line}
-use Rattle.theory_cli.specs.Run.{Ends, AreMade, IsOutput, IsDecided, NoneFailed, IsComplete, IsRun}
+use Rattle.theory_cli.specs.Run.{Ends, OfModel, AreMade, IsOutput, IsAnswered, IsDecided, NoneFailed, IsComplete, IsRun}
 use Rattle.theory_cli.proofs.ExclusionLemmas.{never_both}
 
 -- a count of faults doesn't fall where prints are taken
@@ -34,13 +36,14 @@ written_as meant line before now status written = ⊎_elim (λ w. inl w.0) (λ c
 ends_as : (given : Given) (reached : Status) (before now : SinkTold) (status : Status) → IsReported given reached before now status →
     EndsAs reached before now status
 ends_as given Finished before now status r = inl r.0
+ends_as given Undecided before now status r = inl r.0
 ends_as given NoCommand before now status r = written_as NoCommand r.0 before now status r.2
 ends_as given Refused before now status r = written_as Refused r.0 before now status r.2
 ends_as given Unread before now status r = written_as Unread r.0 before now status r.2
 ends_as given Unwritten before now status r = inl r.0
 ends_as given NoMemory before now status r = written_as NoMemory r.0 before now status r.2
 
-module _ (words : List (List ℕ)) (before now : Ends) (replies : List Reply) where
+module _ (m : Meanings) (words : List (List ℕ)) (before now : Ends) (replies : List Reply) where
   failed : (reached status : Status) → IsOutput reached replies before.out now.out → EndsAs reached before.err now.err status → status ≡ Unwritten →
       Rose before.out.faults now.out.faults ⊎ Rose before.err.faults now.err.faults
   failed reached status output ends is =
@@ -48,7 +51,17 @@ module _ (words : List (List ℕ)) (before now : Ends) (replies : List Reply) wh
       (λ e. inl (cut_rose replies before.out now.out (subst (λ (s : Status). IsOutput s replies before.out now.out) (sym e ∙ is) output)))
       (λ c. inr c.1) ends
 
-  decided : (given : Given) (reached status : Status) → IsCause given before.files now.files reached → AreMade given reached replies →
+  -- where each claim was answered the bytes spell a model
+  answered_model : (file bytes : List ℕ) (s : Status) → IsAnswered s → AreMade m (gave file bytes) s replies →
+      OfModel bytes (λ lines. AreReplies m lines replies)
+  answered_model file bytes s (inl e) made = (subst (λ (t : Status). AreMade m (gave file bytes) t replies) e made).0
+  answered_model file bytes s (inr e) made = (subst (λ (t : Status). AreMade m (gave file bytes) t replies) e made).0
+
+  unwritten_is_none : IsAnswered Unwritten → ⊥
+  unwritten_is_none (inl e) = absurd cc
+  unwritten_is_none (inr e) = absurd cc
+
+  decided : (given : Given) (reached status : Status) → IsCause given before.files now.files reached → AreMade m given reached replies →
       EndsAs reached before.err now.err status → IsDecided given status
   decided no_command reached status cause made ends = tt
   decided (not_asked file) reached status cause made ends = tt
@@ -56,32 +69,34 @@ module _ (words : List (List ℕ)) (before now : Ends) (replies : List Reply) wh
   decided (gave file bytes) reached status cause made ends = (
     λ spells is. ⊎_elim {C = ⊥}
         (λ e. let r = subst (IsCause (gave file bytes) before.files now.files) (sym e ∙ is) cause in
-        never_both bytes spells.0 spells.1 spells.2 r.0 spells.3 r.1)
+        never_both bytes spells.0 r.0 spells.1 r.1)
         (λ c. let bad : ◌≡◌ {A = Status} Refused Unwritten = sym is ∙ c.0 in absurd (cc)) ends,
     λ told refusal is. ⊎_elim {C = ⊥}
-        (λ e. let m = subst (λ (s : Status). AreMade (gave file bytes) s replies) (sym e ∙ is) made in
-        never_both bytes m.0 m.1 m.2 told m.3 refusal)
-        (λ c. let bad : ◌≡◌ {A = Status} Finished Unwritten = sym is ∙ c.0 in absurd (cc)) ends,
+        (λ e. let found = answered_model file bytes reached (subst IsAnswered e is) made in never_both bytes found.0 told found.1 refusal)
+        (λ c. unwritten_is_none (subst IsAnswered c.0 is)) ends,
   )
 
   -- the ends that a command may reach where no count rose
   reaches : (given : Given) (reached : Status) (file : List ℕ) → AreWords words given → IsCommand words file → NoneFailed before now →
       IsCause given before.files now.files reached → IsOutput reached replies before.out now.out →
-      (reached ≡ Finished) ⊎ (reached ≡ Refused) ⊎ (reached ≡ NoMemory)
+      IsAnswered reached ⊎ (reached ≡ Refused) ⊎ (reached ≡ NoMemory)
   reaches no_command reached file are command none cause output = absurd (are file command)
   reaches (not_asked f) NoMemory file are command none cause output = inr (inr refl)
   reaches (not_asked f) Finished file are command none cause output = absurd cause
+  reaches (not_asked f) Undecided file are command none cause output = absurd cause
   reaches (not_asked f) NoCommand file are command none cause output = absurd cause
   reaches (not_asked f) Refused file are command none cause output = absurd cause
   reaches (not_asked f) Unread file are command none cause output = absurd cause
   reaches (not_asked f) Unwritten file are command none cause output = absurd cause
   reaches (no_bytes f) NoMemory file are command none cause output = inr (inr refl)
   reaches (no_bytes f) Finished file are command none cause output = absurd cause
+  reaches (no_bytes f) Undecided file are command none cause output = absurd cause
   reaches (no_bytes f) NoCommand file are command none cause output = absurd cause
   reaches (no_bytes f) Refused file are command none cause output = absurd cause
   reaches (no_bytes f) Unread file are command none cause output = absurd (none.files cause)
   reaches (no_bytes f) Unwritten file are command none cause output = absurd cause
-  reaches (gave f bytes) Finished file are command none cause output = inl refl
+  reaches (gave f bytes) Finished file are command none cause output = inl (inl refl)
+  reaches (gave f bytes) Undecided file are command none cause output = inl (inr refl)
   reaches (gave f bytes) Refused file are command none cause output = inr (inl refl)
   reaches (gave f bytes) NoMemory file are command none cause output = inr (inr refl)
   reaches (gave f bytes) NoCommand file are command none cause output = absurd cause
@@ -93,6 +108,7 @@ module _ (words : List (List ℕ)) (before now : Ends) (replies : List Reply) wh
       IsCause given before.files now.files reached → reached ≡ NoCommand
   reaches_one no_command NoCommand are other cause = refl
   reaches_one no_command Finished are other cause = absurd cause
+  reaches_one no_command Undecided are other cause = absurd cause
   reaches_one no_command Refused are other cause = absurd cause
   reaches_one no_command Unread are other cause = absurd cause
   reaches_one no_command Unwritten are other cause = absurd cause
@@ -106,7 +122,7 @@ module _ (words : List (List ℕ)) (before now : Ends) (replies : List Reply) wh
   complete given reached status are cause output ends = record {
     command = λ file command none.
         ⊎_elim
-        (λ e. subst (λ (s : Status). (s ≡ Finished) ⊎ (s ≡ Refused) ⊎ (s ≡ NoMemory)) (sym e)
+        (λ e. subst (λ (s : Status). IsAnswered s ⊎ (s ≡ Refused) ⊎ (s ≡ NoMemory)) (sym e)
         (reaches given reached file are command none cause output))
         (λ c. absurd (none.err c.1)) ends;
     no_command = λ other stands. ⊎_elim (λ e. e ∙ reaches_one given reached are other cause) (λ c. absurd (stands c.1)) ends;
@@ -114,8 +130,8 @@ module _ (words : List (List ℕ)) (before now : Ends) (replies : List Reply) wh
 
   -- a run, from what is known of its parts
   pub runs : (given : Given) (reached status : Status) → AreWords words given → IsGiven before.files.texts given →
-      IsAsked given before.files now.files → IsCause given before.files now.files reached → AreMade given reached replies →
-      IsOutput reached replies before.out now.out → IsReported given reached before.err now.err status → IsRun words before now status replies
+      IsAsked given before.files now.files → IsCause given before.files now.files reached → AreMade m given reached replies →
+      IsOutput reached replies before.out now.out → IsReported given reached before.err now.err status → IsRun m words before now status replies
   runs given reached status are read asked cause made output reported =
       let ends = ends_as given reached before.err now.err status reported in (
         given,
@@ -136,12 +152,12 @@ module _ (words : List (List ℕ)) (before now : Ends) (replies : List Reply) wh
 
   -- a run whose words are no command
   pub no_command_run : (status : Status) → ((file : List ℕ) → ¬ IsCommand words file) → replies ≡ [] → now.files ≡ before.files → now.out ≡ before.out →
-      IsWritten NoCommand no_command_line before.err now.err status → IsRun words before now status replies
+      IsWritten NoCommand no_command_line before.err now.err status → IsRun m words before now status replies
   no_command_run status other empty files out written =
       runs no_command NoCommand status other tt files tt empty (subst (λ (rs : List Reply). TookReplies rs before.out now.out) (sym empty) out)
       (no_command_line, refl, written)
 
 -- a run of the same words
-pub run_of : (words named : List (List ℕ)) (before now : Ends) (status : Status) (replies : List Reply) → words ≡ named →
-    IsRun named before now status replies → IsRun words before now status replies
-run_of words named before now status replies same run = subst (λ (w : List (List ℕ)). IsRun w before now status replies) (sym same) run
+pub run_of : (m : Meanings) (words named : List (List ℕ)) (before now : Ends) (status : Status) (replies : List Reply) → words ≡ named →
+    IsRun m named before now status replies → IsRun m words before now status replies
+run_of m words named before now status replies same run = subst (λ (w : List (List ℕ)). IsRun m w before now status replies) (sym same) run

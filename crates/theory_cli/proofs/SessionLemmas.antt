@@ -1,7 +1,12 @@
 -- Replies that are told one after another.
-use Rattle.std.proofs.Common.{◌≡◌, ℕ, suc, ◌+◌, ◌<◌, ◌≤◌, List, [], ◌∷◌, ◌++◌, length, get_or, drop, Option, Some, None, Ok, Err, refl, sym, ap, ◌∙◌, subst, arith, append_assoc, add-one, drop-cons}
+use Rattle.std.proofs.Common.{◌≡◌, ℕ, zero, suc, Bool, true, false, ◌+◌, ◌<◌, ◌≤◌, List, [], ◌∷◌, ◌++◌, length, get_or, drop, Option, Some, None, Ok, Err, refl, sym, ap, ◌∙◌, subst, arith, append_assoc, add-one, drop-cons}
+use Rattle.std.specs.Prelude.{Contains, if◌then◌else◌}
 use Rattle.std.proofs.lemmas.List.{append-nil, drop_all}
+use Rattle.std.proofs.lemmas.List.Elements.{Contains-append_right}
 use Rattle.theory_meaning.specs.Point.{Name}
+use Rattle.theory_meaning.specs.Deciding.{Meanings}
+use Rattle.theory_meaning.specs.Edit.{lines_alone}
+use Rattle.theory_meaning.specs.Text.{Numbered}
 use Rattle.theory_meaning.specs.Tree.{Claim, Line}
 use Rattle.theory_meaning.specs.Faults.{Took}
 use Rattle.theory_edge.specs.Sinks.{SinkTold}
@@ -10,11 +15,13 @@ use Rattle.theory_cli.specs.declared.reply.Reply.{Reply}
 use Rattle.theory_cli.specs.declared.reply.Reply.TheVariants as reply
 use Rattle.theory_cli.specs.declared.session.Halt.{Halt}
 use Rattle.theory_cli.specs.declared.session.Halt.TheVariants.{Unwritten, NoMemory}
-use Rattle.theory_one_variable.specs.declared.text.Role.{Role}
-use Rattle.theory_one_variable.specs.declared.text.Role.TheVariants as role
-use Rattle.theory_one_variable.specs.declared.text.Row.{Row}
-use Rattle.theory_one_variable.specs.Rows.{atom_claim, line_as, row_line, row_lines}
-use Rattle.theory_cli.specs.Session.{Asked, asked_in, IsAnswerAbout, AreAnswers, IsCreation, AreReplies, AreFirstReplies, reply_text, replies_text}
+use Rattle.theory_syntax.specs.declared.claim.Claim as source_claim
+use Rattle.theory_syntax.specs.declared.line.Line as source_line
+use Rattle.theory_syntax.specs.declared.line.Line.TheVariants as source_lines
+use Rattle.theory_syntax.specs.declared.text.Numbered as source
+use Rattle.theory_syntax.specs.Plain.{claim_of, line_of, lines_of}
+use Rattle.theory_cli.specs.NotYet.{is_not_yet, first_not_yet}
+use Rattle.theory_cli.specs.Session.{Asked, asked_in, model_name, IsAnswer, AreAnswers, IsCreation, AreReplies, AreFirstReplies, reply_text, replies_text}
 use Rattle.theory_cli.specs.Taking.{IsTold, IsCutOff, TookReplies, CutInLast}
 use Rattle.theory_cli.specs.Telling.{TellsOne, IsAnswering, Answers}
 
@@ -58,81 +65,110 @@ answers-push IsMet (a ∷ asked) [] one r h k = absurd h
 answers-push IsMet (a ∷ asked) (reply.Created c ∷ answers) one r h k = absurd h
 answers-push IsMet (a ∷ asked) (reply.Answered b ∷ answers) one r h k = (h.0, answers-push IsMet asked answers one r h.1 k)
 
-one_answer : (model x : Name) (rows : List Line) (one : Asked) (r : Reply) → IsAnswering model x rows one r →
-    AreAnswers (IsAnswerAbout model x rows) (one ∷ []) (r ∷ [])
-one_answer model x rows one (reply.Created c) h = absurd h
-one_answer model x rows one (reply.Answered a) h = (h, refl)
+one_answer : (m : Meanings) (lines : List Numbered) (one : Asked) (r : Reply) → IsAnswering m lines one r →
+    AreAnswers (IsAnswer m lines) (one ∷ []) (r ∷ [])
+one_answer m lines one (reply.Created c) h = absurd h
+one_answer m lines one (reply.Answered a) h = (h, refl)
 
 -- the creation and the answers to the claims before these lines
-pub record AnsweredTo (model x : Name) (rows left : List Line) (replies : List Reply) : Type 0 where
+pub record AnsweredTo (m : Meanings) (lines : List Numbered) (left : List Line) (replies : List Reply) : Type 0 where
   pub first : Reply
   pub answers : List Reply
   pub asked : List Asked
   pub are : replies ≡ first ∷ answers
-  pub creation : IsCreation model first
-  pub split : asked ++ asked_in left ≡ asked_in rows
-  pub answered : AreAnswers (IsAnswerAbout model x rows) asked answers
+  pub creation : IsCreation (model_name (lines_alone lines)) first
+  pub split : asked ++ asked_in left ≡ asked_in (lines_alone lines)
+  pub answered : AreAnswers (IsAnswer m lines) asked answers
 
-first_replies : (model x : Name) (rows left : List Line) (replies : List Reply) → AnsweredTo model x rows left replies → AreFirstReplies model x rows replies
-first_replies model x rows left replies a = subst (AreFirstReplies model x rows) (sym a.are) (a.creation, (a.asked, asked_in left, a.split, a.answered))
+first_replies : (m : Meanings) (lines : List Numbered) (left : List Line) (replies : List Reply) → AnsweredTo m lines left replies → AreFirstReplies m lines replies
+first_replies m lines left replies a = subst (AreFirstReplies m lines) (sym a.are) (a.creation, (a.asked, asked_in left, a.split, a.answered))
 
-all_replies : (model x : Name) (rows : List Line) (replies : List Reply) → AnsweredTo model x rows [] replies → AreReplies model x rows replies
-all_replies model x rows replies a =
-    let all : a.asked ≡ asked_in rows = sym (append-nil a.asked) ∙ a.split in
-    subst (AreReplies model x rows) (sym a.are) (
+all_replies : (m : Meanings) (lines : List Numbered) (replies : List Reply) → AnsweredTo m lines [] replies → AreReplies m lines replies
+all_replies m lines replies a =
+    let all : a.asked ≡ asked_in (lines_alone lines) = sym (append-nil a.asked) ∙ a.split in
+    subst (AreReplies m lines) (sym a.are) (
       a.creation,
       subst
-          (λ (l : List Asked). AreAnswers (IsAnswerAbout model x rows) l a.answers) all a.answered,
+          (λ (l : List Asked). AreAnswers (IsAnswer m lines) l a.answers) all a.answered,
     )
 
 -- one more answer was told
-answered_more : (model x : Name) (rows left : List Line) (one : Asked) (old new : List Reply) (r : Reply) → IsAnswering model x rows one r →
+answered_more : (m : Meanings) (lines : List Numbered) (left : List Line) (one : Asked) (old new : List Reply) (r : Reply) → IsAnswering m lines one r →
     new ≡ old ++ r ∷ [] →
-    (later : List Line) → asked_in left ≡ one ∷ asked_in later → AnsweredTo model x rows left old → AnsweredTo model x rows later new
-answered_more model x rows left one old new r is more later next a = record {
+    (later : List Line) → asked_in left ≡ one ∷ asked_in later → AnsweredTo m lines left old → AnsweredTo m lines later new
+answered_more m lines left one old new r is more later next a = record {
   first = a.first;
   answers = a.answers ++ r ∷ [];
   asked = a.asked ++ one ∷ [];
   are = more ∙ ap (λ (l : List Reply). l ++ r ∷ []) a.are;
   creation = a.creation;
   split = append_assoc a.asked (one ∷ []) (asked_in later) ∙ ap (λ (l : List Asked). a.asked ++ l) (sym next) ∙ a.split;
-  answered = answers-push (IsAnswerAbout model x rows) a.asked a.answers one r a.answered (one_answer model x rows one r is);
+  answered = answers-push (IsAnswer m lines) a.asked a.answers one r a.answered (one_answer m lines one r is);
 }
 
--- the replies before the k-th row, with their prints
-pub record GoneOn (model x : Name) (rows : List Row) (k : ℕ) (replies : List Reply) (before now : SinkTold) : Type 0 where
-  pub answered : AnsweredTo model x (row_lines x rows) (row_lines x (drop k rows)) replies
+-- the lines from one place on
+abbrev rest_of : List source.Numbered → ℕ → List Line
+rest_of ls k = lines_alone (lines_of (drop k ls))
+
+-- the replies before the k-th line, with their prints
+pub record GoneOn (m : Meanings) (ls : List source.Numbered) (k : ℕ) (replies : List Reply) (before now : SinkTold) : Type 0 where
+  pub answered : AnsweredTo m (lines_of ls) (rest_of ls k) replies
   pub told : TookReplies replies before now
 
-pub begun : (model x : Name) (rows : List Row) (old new : List Reply) (before now : SinkTold) → old ≡ [] →
-    TellsOne (IsCreation model) old new before now (Ok tt) → GoneOn model x rows 0 new before now
-begun model x rows old new before now empty (r, is, more, told) =
+pub begun : (m : Meanings) (ls : List source.Numbered) (old new : List Reply) (before now : SinkTold) → old ≡ [] →
+    TellsOne (IsCreation (model_name (lines_alone (lines_of ls)))) old new before now (Ok tt) → GoneOn m ls 0 new before now
+begun m ls old new before now empty (r, is, more, told) =
     let are : new ≡ r ∷ [] = more ∙ ap (λ (l : List Reply). l ++ r ∷ []) empty in
     record {
       answered = record { first = r; answers = []; asked = []; are = are; creation = is; split = refl; answered = refl };
       told = subst (λ (l : List Reply). TookReplies l before now) (sym are) (took_first r before now told);
     }
 
--- the lines from one row on
-row_ahead : (x : Name) (rows : List Row) (k : ℕ) (row : Row) → k < length rows → row ≡ get_or rows k row →
-    row_lines x (drop k rows) ≡ row_line x row ∷ row_lines x (drop (k + 1) rows)
-row_ahead x rows k row within is = rw (add-one, drop-cons rows k row) (ap (λ (r : Row). row_line x r ∷ row_lines x (drop (suc k) rows)) (sym is))
+-- one line and the lines behind it
+line_ahead : (ls : List source.Numbered) (k : ℕ) (n : source.Numbered) → k < length ls → n ≡ get_or ls k n →
+    rest_of ls k ≡ line_of n.line ∷ rest_of ls (k + 1)
+line_ahead ls k n within is =
+    rw (add-one, drop-cons ls k n) (ap (λ (r : source.Numbered). line_of r.line ∷ lines_alone (lines_of (drop (suc k) ls))) (sym is))
 
-claim_ahead : (x : Name) (kind : Role) (label : Name) (c : Claim) (lines : List Line) → kind ≡ role.Claim →
-    asked_in (line_as kind label c ∷ lines) ≡ (label, None, c) ∷ asked_in lines
-claim_ahead x kind label c lines is = subst (λ (k : Role). asked_in (line_as k label c ∷ lines) ≡ (label, None, c) ∷ asked_in lines) (sym is) refl
+-- a claim without a shift is asked, another line isn't
+asks_claim : (line : source_line.Line) (label : Name) (shift : Option Name) (c : source_claim.Claim) (lines : List Line) →
+    line ≡ source_lines.Claim label shift c → is_not_yet (line_of line) ≡ false → asked_in (line_of line ∷ lines) ≡ (label, None, claim_of c) ∷ asked_in lines
+asks_claim line label None c lines is ready =
+    subst (λ (l : source_line.Line). asked_in (line_of l ∷ lines) ≡ (label, None, claim_of c) ∷ asked_in lines) (sym is) refl
+asks_claim line label (Some t) c lines is ready =
+    let bad : is_not_yet (line_of line) ≡ true = ap (λ (l : source_line.Line). is_not_yet (line_of l)) is in absurd cc
 
-no_claim_ahead : (x : Name) (kind : Role) (label : Name) (c : Claim) (lines : List Line) → kind ≡ role.Assumption →
-    asked_in (line_as kind label c ∷ lines) ≡ asked_in lines
-no_claim_ahead x kind label c lines is = subst (λ (k : Role). asked_in (line_as k label c ∷ lines) ≡ asked_in lines) (sym is) refl
+-- another line isn't asked
+pub asks_none : (line : source_line.Line) → ((label : Name) (shift : Option Name) (c : source_claim.Claim) → line ≡ source_lines.Claim label shift c → ⊥)
+    → (lines : List Line) → asked_in (line_of line ∷ lines) ≡ asked_in lines
+asks_none (source_lines.Model n) none lines = refl
+asks_none (source_lines.Var x) none lines = refl
+asks_none (source_lines.Param t) none lines = refl
+asks_none (source_lines.Fun f us) none lines = refl
+asks_none (source_lines.Eq label u v) none lines = refl
+asks_none (source_lines.Assume label c) none lines = refl
+asks_none (source_lines.Claim label shift c) none lines = absurd (none label shift c refl)
 
-module _ (model x : Name) (rows : List Row) (k : ℕ) (row : Row) (within : k < length rows) (is : row ≡ get_or rows k row) where
-  pub passed_over : (replies : List Reply) (before now : SinkTold) → row.role ≡ role.Assumption →
-      GoneOn model x rows k replies before now → GoneOn model x rows (k + 1) replies before now
-  passed_over replies before now kind g =
+-- a first test that fails, and none found behind it
+first_ready : (b : Bool) (at : ℕ) (o : Option ℕ) → (if b then Some at else o) ≡ None → (b ≡ false) × (o ≡ None)
+first_ready true at o h = absurd cc
+first_ready false at o h = (refl, h)
+
+-- none of the lines is one that isn't answered yet
+ready_ahead : (ls : List source.Numbered) (k : ℕ) (n : source.Numbered) → k < length ls → n ≡ get_or ls k n → first_not_yet (lines_of ls) ≡ None →
+    is_not_yet (line_of n.line) ≡ false
+ready_ahead [] k n within is ready = absurd (omega (arith, within))
+ready_ahead (l ∷ ls) zero n within is ready =
+    subst (λ (r : source.Numbered). is_not_yet (line_of r.line) ≡ false) (sym is) (first_ready (is_not_yet (line_of l.line)) l.at (first_not_yet (lines_of ls)) ready).0
+ready_ahead (l ∷ ls) (suc k) n within is ready =
+    ready_ahead ls k n (omega (arith, within)) is (first_ready (is_not_yet (line_of l.line)) l.at (first_not_yet (lines_of ls)) ready).1
+
+module _ (m : Meanings) (ls : List source.Numbered) (k : ℕ) (n : source.Numbered) (within : k < length ls) (is : n ≡ get_or ls k n) where
+  pub passed_over : (replies : List Reply) (before now : SinkTold) → ((lines : List Line) → asked_in (line_of n.line ∷ lines) ≡ asked_in lines) →
+      GoneOn m ls k replies before now → GoneOn m ls (k + 1) replies before now
+  passed_over replies before now none g =
       let a = g.answered in
-      let same : asked_in (row_lines x (drop k rows)) ≡ asked_in (row_lines x (drop (k + 1) rows)) =
-      ap asked_in (row_ahead x rows k row within is) ∙ no_claim_ahead x row.role row.label (atom_claim x row.atom) (row_lines x (drop (k + 1) rows)) kind in
+      let same : asked_in (rest_of ls k) ≡ asked_in (rest_of ls (k + 1)) = ap asked_in (line_ahead ls k n within is) ∙ none (rest_of ls (k + 1)) in
       record {
         answered = record {
           first = a.first;
@@ -146,49 +182,57 @@ module _ (model x : Name) (rows : List Row) (k : ℕ) (row : Row) (within : k < 
         told = g.told;
       }
 
-  ahead : row.role ≡ role.Claim → asked_in (row_lines x (drop k rows)) ≡ (row.label, None, atom_claim x row.atom) ∷ asked_in (row_lines x (drop (k + 1) rows))
-  ahead kind = ap asked_in (row_ahead x rows k row within is) ∙ claim_ahead x row.role row.label (atom_claim x row.atom) (row_lines x (drop (k + 1) rows)) kind
+  module _ (label : Name) (shift : Option Name) (c : source_claim.Claim) (line : n.line ≡ source_lines.Claim label shift c)
+      (ready : first_not_yet (lines_of ls) ≡ None) where
+    ahead : asked_in (rest_of ls k) ≡ (label, None, claim_of c) ∷ asked_in (rest_of ls (k + 1))
+    ahead =
+        ap asked_in (line_ahead ls k n within is) ∙ asks_claim n.line label shift c (rest_of ls (k + 1)) line (ready_ahead ls k n within is ready)
 
-  pub answered_row : (old new : List Reply) (before now later : SinkTold) → row.role ≡ role.Claim →
-      TellsOne (IsAnswering model x (row_lines x rows) (row.label, None, atom_claim x row.atom)) old new now later (Ok tt) →
-      GoneOn model x rows k old before now → GoneOn model x rows (k + 1) new before later
-  answered_row old new before now later kind (r, answers, more, told) g = record {
-    answered = answered_more model x (row_lines x rows) (row_lines x (drop k rows)) (row.label, None, atom_claim x row.atom) old new r answers more
-        (row_lines x (drop (k + 1) rows)) (ahead kind) g.answered;
-    told = subst (λ (l : List Reply). TookReplies l before later) (sym more) (took_more old r before now later g.told told);
-  }
+    pub is_own : (replies : List Reply) (before now : SinkTold) → GoneOn m ls k replies before now →
+        Contains (asked_in (lines_alone (lines_of ls))) (label, None, claim_of c)
+    is_own replies before now g =
+        subst (λ (l : List Asked). Contains l (label, None, claim_of c)) (ap (λ (l : List Asked). g.answered.asked ++ l) (sym ahead) ∙ g.answered.split)
+        (Contains-append_right g.answered.asked ((label, None, claim_of c) ∷ asked_in (rest_of ls (k + 1))) (label, None, claim_of c)
+        (0, omega arith, refl))
 
-  pub halted : (h : Halt) (old new : List Reply) (before now later : SinkTold) → row.role ≡ role.Claim →
-      TellsOne (IsAnswering model x (row_lines x rows) (row.label, None, atom_claim x row.atom)) old new now later (Err h) →
-      GoneOn model x rows k old before now → Answers model x (row_lines x rows) new before later (Err h)
-  halted Unwritten old new before now later kind (r, answers, more, cut) g = (
-    first_replies model x (row_lines x rows) (row_lines x (drop (k + 1) rows)) new
-        (answered_more model x (row_lines x rows) (row_lines x (drop k rows)) (row.label, None, atom_claim x row.atom) old new r answers more
-        (row_lines x (drop (k + 1) rows)) (ahead kind) g.answered),
-    cut_last old new r before now later more g.told cut,
-  )
-  halted NoMemory old new before now later kind (same, stands) g = (
-    subst (AreFirstReplies model x (row_lines x rows)) (sym same) (first_replies model x (row_lines x rows) (row_lines x (drop k rows)) old g.answered),
-    subst (λ (s : SinkTold). TookReplies new before s) (sym stands) (subst (λ (l : List Reply). TookReplies l before now) (sym same) g.told),
-  )
+    pub answered_claim : (old new : List Reply) (before now later : SinkTold) →
+        TellsOne (IsAnswering m (lines_of ls) (label, None, claim_of c)) old new now later (Ok tt) →
+        GoneOn m ls k old before now → GoneOn m ls (k + 1) new before later
+    answered_claim old new before now later (r, answers, more, told) g = record {
+      answered = answered_more m (lines_of ls) (rest_of ls k) (label, None, claim_of c) old new r answers more (rest_of ls (k + 1)) ahead g.answered;
+      told = subst (λ (l : List Reply). TookReplies l before later) (sym more) (took_more old r before now later g.told told);
+    }
 
-pub halted_at_once : (model x : Name) (rows : List Row) (h : Halt) (old new : List Reply) (before now : SinkTold) → old ≡ [] →
-    TellsOne (IsCreation model) old new before now (Err h) → Answers model x (row_lines x rows) new before now (Err h)
-halted_at_once model x rows Unwritten old new before now empty (r, is, more, cut) =
+    pub halted : (h : Halt) (old new : List Reply) (before now later : SinkTold) →
+        TellsOne (IsAnswering m (lines_of ls) (label, None, claim_of c)) old new now later (Err h) →
+        GoneOn m ls k old before now → Answers m (lines_of ls) new before later (Err h)
+    halted Unwritten old new before now later (r, answers, more, cut) g = (
+      first_replies m (lines_of ls) (rest_of ls (k + 1)) new
+          (answered_more m (lines_of ls) (rest_of ls k) (label, None, claim_of c) old new r answers more (rest_of ls (k + 1)) ahead g.answered),
+      cut_last old new r before now later more g.told cut,
+    )
+    halted NoMemory old new before now later (same, stands) g = (
+      subst (AreFirstReplies m (lines_of ls)) (sym same) (first_replies m (lines_of ls) (rest_of ls k) old g.answered),
+      subst (λ (s : SinkTold). TookReplies new before s) (sym stands) (subst (λ (l : List Reply). TookReplies l before now) (sym same) g.told),
+    )
+
+pub halted_at_once : (m : Meanings) (lines : List Numbered) (h : Halt) (old new : List Reply) (before now : SinkTold) → old ≡ [] →
+    TellsOne (IsCreation (model_name (lines_alone lines))) old new before now (Err h) → Answers m lines new before now (Err h)
+halted_at_once m lines Unwritten old new before now empty (r, is, more, cut) =
     let are : new ≡ r ∷ [] = more ∙ ap (λ (l : List Reply). l ++ r ∷ []) empty in (
-      subst (AreFirstReplies model x (row_lines x rows)) (sym are) (is, ([], asked_in (row_lines x rows), refl, refl)),
+      subst (AreFirstReplies m lines) (sym are) (is, ([], asked_in (lines_alone lines), refl, refl)),
       cut_last [] new r before before now are refl cut,
     )
-halted_at_once model x rows NoMemory old new before now empty (same, stands) =
+halted_at_once m lines NoMemory old new before now empty (same, stands) =
     let are : new ≡ [] = same ∙ empty in (
-      subst (AreFirstReplies model x (row_lines x rows)) (sym are) tt,
+      subst (AreFirstReplies m lines) (sym are) tt,
       subst (λ (l : List Reply). TookReplies l before now) (sym are) stands,
     )
 
-pub answered_all : (model x : Name) (rows : List Row) (k : ℕ) (replies : List Reply) (before now : SinkTold) → length rows ≤ k →
-    GoneOn model x rows k replies before now → Answers model x (row_lines x rows) replies before now (Ok tt)
-answered_all model x rows k replies before now end g = (
-  all_replies model x (row_lines x rows) replies (subst (λ (l : List Row). AnsweredTo model x (row_lines x rows) (row_lines x l) replies)
-      (drop_all k rows end) g.answered),
+pub answered_all : (m : Meanings) (ls : List source.Numbered) (k : ℕ) (replies : List Reply) (before now : SinkTold) → length ls ≤ k →
+    GoneOn m ls k replies before now → Answers m (lines_of ls) replies before now (Ok tt)
+answered_all m ls k replies before now end g = (
+  all_replies m (lines_of ls) replies (subst (λ (l : List source.Numbered). AnsweredTo m (lines_of ls) (lines_alone (lines_of l)) replies)
+      (drop_all k ls end) g.answered),
   g.told,
 )

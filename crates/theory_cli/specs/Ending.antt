@@ -4,7 +4,7 @@ use Rattle.theory_meaning.specs.Faults.{Rose}
 use Rattle.theory_edge.specs.Files.{FilesTold}
 use Rattle.theory_edge.specs.Sinks.{SinkTold}
 use Rattle.theory_cli.specs.declared.status.Status.{Status}
-use Rattle.theory_cli.specs.declared.status.Status.TheVariants.{Finished, NoCommand, Refused, Unread, Unwritten, NoMemory}
+use Rattle.theory_cli.specs.declared.status.Status.TheVariants.{Finished, Undecided, NoCommand, Refused, Unread, Unwritten, NoMemory}
 use Rattle.theory_cli.specs.Command.{Given, no_command, not_asked, no_bytes, gave}
 use Rattle.theory_cli.specs.Printed.{line_end}
 use Rattle.theory_cli.specs.Refusal.{IsRefusal}
@@ -13,6 +13,7 @@ use Rattle.theory_cli.specs.Taking.{IsTold, IsCutOff}
 -- the exit status of a program that ended so
 abbrev pub exit_number : Status → ℕ
 exit_number Finished = 0
+exit_number Undecided = 1
 exit_number NoCommand = 2
 exit_number Refused = 3
 exit_number Unread = 5
@@ -26,6 +27,7 @@ IsCause (not_asked file) before now NoMemory = Unit {0}
 IsCause (no_bytes file) before now NoMemory = Unit {0}
 IsCause (no_bytes file) before now Unread = Rose before.faults now.faults
 IsCause (gave file bytes) before now Finished = Unit {0}
+IsCause (gave file bytes) before now Undecided = Unit {0}
 IsCause (gave file bytes) before now Refused = (told : List ℕ) × IsRefusal bytes told
 IsCause (gave file bytes) before now Unwritten = Unit {0}
 IsCause (gave file bytes) before now NoMemory = Unit {0}
@@ -55,5 +57,6 @@ IsWritten meant line before now status =
 -- the end that was reached is told on err by its line; one that has none leaves err as it was
 abbrev pub IsReported : Given → Status → SinkTold → SinkTold → Status → Type 0
 IsReported given Finished before now status = (status ≡ Finished) × (now ≡ before)
+IsReported given Undecided before now status = (status ≡ Undecided) × (now ≡ before)
 IsReported given Unwritten before now status = (status ≡ Unwritten) × (now ≡ before)
 IsReported given reached before now status = (line : List ℕ) × IsErrLine given reached line × IsWritten reached line before now status

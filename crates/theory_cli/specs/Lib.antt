@@ -4,9 +4,9 @@ pub use Rattle.theory_meaning.specs.ModelFault
 pub use Rattle.theory_grammar.specs.Texts
 pub use Rattle.theory_edge.specs.Files
 pub use Rattle.theory_edge.specs.Sinks
-pub use Rattle.theory_one_variable.specs.OneVariable
-pub use Rattle.theory_one_variable.specs.ReadLines
+pub use Rattle.theory_decision.specs.Engine
 pub mod Printed
+pub mod NotYet
 pub mod Refusal
 pub mod Session
 pub mod Taking

@@ -1,17 +1,14 @@
 -- Why the bytes of a file aren't answered, and what is told of it behind the file's name. docs/PROTOCOL.md has it in words.
-use Rattle.std.specs.Prelude.{◌≡◌, ℕ, max, List, ◌++◌, Some, length, codes, decimal}
-use Rattle.theory_meaning.specs.Edit.{IsModel, lines_alone}
+use Rattle.std.specs.Prelude.{◌≡◌, ℕ, List, ◌++◌, None, Some, codes, decimal}
+use Rattle.theory_meaning.specs.Edit.{IsModel}
 use Rattle.theory_meaning.specs.ModelFault as meaning
 use Rattle.theory_meaning.specs.ModelFault.{ModelFault}
-use Rattle.theory_meaning.specs.Point.{Name}
 use Rattle.theory_meaning.specs.Text.{Numbered}
-use Rattle.theory_meaning.specs.Tree.{Line}
-use Rattle.theory_grammar.specs.TextFault.{Fault, cut_lines}
+use Rattle.theory_grammar.specs.TextFault.{Fault}
 use Rattle.theory_grammar.specs.Texts.{SpellsLines, IsFirstFault}
 use Rattle.theory_model.specs.Message.{printed_kind as printed_model_kind}
 use Rattle.theory_text.specs.Message.{printed_kind as printed_text_kind}
-use Rattle.theory_one_variable.specs.OneVariable.{IsOneVariable}
-use Rattle.theory_one_variable.specs.ReadLines.{IsNotYet}
+use Rattle.theory_cli.specs.NotYet.{first_not_yet}
 
 -- a fault of a text: its line, its column and its kind
 abbrev pub text_fault_text : Fault → List ℕ
@@ -25,20 +22,15 @@ model_fault_text f = codes ":" ++ decimal f.at ++ codes ": " ++ printed_model_ki
 abbrev pub not_yet_text : ℕ → List ℕ
 not_yet_text n = codes ":" ++ decimal n ++ codes ": NotYet"
 
--- the number of the last line of a text, or 1 where there is none
-abbrev pub last_line : List ℕ → ℕ
-last_line bytes = max 1 (length (cut_lines bytes))
-
 -- why these bytes are refused, by what is told of it: the first fault of the text, where there is none
--- that of the model, and where there is none of these that the model is no one-variable text
+-- that of the model, and where there is none of these the first line that isn't answered yet
 pub data IsRefusal (bytes : List ℕ) : List ℕ → Type 0 where
   text_fault : (f : Fault) → IsFirstFault bytes f → IsRefusal bytes (text_fault_text f)
   model_fault : (lines : List Numbered) (f : ModelFault) → SpellsLines bytes lines → meaning.model_fault lines ≡ Some f → IsRefusal bytes (model_fault_text f)
-  not_yet : (lines : List Numbered) (n : ℕ) → SpellsLines bytes lines → IsModel lines → IsNotYet lines (last_line bytes) n → IsRefusal bytes (not_yet_text n)
+  not_yet : (lines : List Numbered) (n : ℕ) → SpellsLines bytes lines → IsModel lines → first_not_yet lines ≡ Some n → IsRefusal bytes (not_yet_text n)
 
--- the bytes spell a model without a fault, and it is this one-variable text
-pub record SpellsOneVariable (bytes : List ℕ) (model x : Name) (rows : List Line) : Type 0 where
-  pub lines : List Numbered
+-- the bytes spell these lines, a model without a fault of which each line is answered
+pub record SpellsModel (bytes : List ℕ) (lines : List Numbered) : Type 0 where
   pub spelled : SpellsLines bytes lines
   pub checked : IsModel lines
-  pub one_variable : IsOneVariable model x rows (lines_alone lines)
+  pub ready : first_not_yet lines ≡ None

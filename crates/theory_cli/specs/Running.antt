@@ -1,5 +1,5 @@
 -- The steps of a run: how a check of a file stops, and what is reported on err.
-use Rattle.std.specs.Prelude.{◌≡◌, ◌⊎◌, ℕ, List, ◌++◌, Result, Ok, Err, codes}
+use Rattle.std.specs.Prelude.{◌≡◌, ◌⊎◌, ℕ, List, ◌++◌, Result, Ok, Err, codes, if◌then◌else◌}
 use Rattle.theory_meaning.specs.Faults.{Rose}
 use Rattle.theory_edge.specs.Files.{FilesTold}
 use Rattle.theory_edge.specs.Sinks.{SinkTold}
@@ -12,12 +12,14 @@ use Rattle.theory_cli.specs.declared.running.Stop.{Stop}
 use Rattle.theory_cli.specs.declared.running.Stop.TheVariants.{Refused, Unread, Unwritten, NoMemory}
 use Rattle.theory_model.specs.Checked as model
 use Rattle.theory_text.specs.Answers as text
-use Rattle.theory_one_variable.specs.Rows.{row_lines}
-use Rattle.theory_one_variable.specs.declared.text.Text.{Text}
+use Rattle.theory_meaning.specs.Deciding.{Meanings}
+use Rattle.theory_syntax.specs.Plain.{lines_of}
+use Rattle.theory_syntax.specs.declared.text.Numbered as source
 use Rattle.theory_cli.specs.Command.{Given, not_asked, no_bytes, gave, check_words, AreWords, IsGiven, IsAsked}
 use Rattle.theory_cli.specs.Printed.{line_end}
-use Rattle.theory_cli.specs.Refusal.{text_fault_text, model_fault_text, not_yet_text, IsRefusal, SpellsOneVariable}
+use Rattle.theory_cli.specs.Refusal.{text_fault_text, model_fault_text, not_yet_text, IsRefusal, SpellsModel}
 use Rattle.theory_cli.specs.Ending.{IsCause, IsErrLine, IsWritten, no_memory_line}
+use Rattle.theory_cli.specs.Session.{some_undecided}
 use Rattle.theory_cli.specs.Run.{AreMade, IsOutput}
 
 -- what is told of a refusal behind the name of the file
@@ -26,16 +28,16 @@ refusal_text (refusal.Text error) = text_fault_text (text.fault_of error)
 refusal_text (refusal.Model fault) = model_fault_text (model.fault_of fault)
 refusal_text (refusal.NotYet n) = not_yet_text n
 
--- why these bytes give no text
+-- why these bytes give no model
 abbrev pub StopsAt : List ℕ → Stop → Type 0
 StopsAt bytes (Refused r) = IsRefusal bytes (refusal_text r)
 StopsAt bytes Unread = ⊥
 StopsAt bytes Unwritten = ⊥
 StopsAt bytes NoMemory = Unit {0}
 
--- the bytes spell the text, or why they don't
-abbrev pub IsParsed : List ℕ → Result Text Stop → Type 0
-IsParsed bytes (Ok t) = SpellsOneVariable bytes t.model t.variable (row_lines t.variable t.rows.items)
+-- the bytes spell the model, or why they don't
+abbrev pub IsParsed : List ℕ → Result (List source.Numbered) Stop → Type 0
+IsParsed bytes (Ok lines) = SpellsModel bytes (lines_of lines)
 IsParsed bytes (Err stop) = StopsAt bytes stop
 
 -- a check of this file was given this, and asked for it once where it got that far
@@ -44,17 +46,17 @@ pub record HasRead (file : List ℕ) (given : Given) (before now : FilesTold) : 
   pub read : IsGiven before.texts given
   pub asked : IsAsked given before now
 
--- what was given as a text, or why it is none
-abbrev pub GivesText : Given → FilesTold → FilesTold → Result Text Stop → Type 0
-GivesText (gave file bytes) before now parsed = IsParsed bytes parsed
-GivesText (no_bytes file) before now (Err Unread) = Rose before.faults now.faults
-GivesText (no_bytes file) before now (Err NoMemory) = Unit {0}
-GivesText (not_asked file) before now (Err NoMemory) = Unit {0}
-GivesText given before now parsed = ⊥
+-- what was given as a model, or why it is none
+abbrev pub GivesModel : Given → FilesTold → FilesTold → Result (List source.Numbered) Stop → Type 0
+GivesModel (gave file bytes) before now parsed = IsParsed bytes parsed
+GivesModel (no_bytes file) before now (Err Unread) = Rose before.faults now.faults
+GivesModel (no_bytes file) before now (Err NoMemory) = Unit {0}
+GivesModel (not_asked file) before now (Err NoMemory) = Unit {0}
+GivesModel given before now parsed = ⊥
 
--- the file was read as a text, or why it wasn't
-abbrev pub ReadsFile : List ℕ → FilesTold → FilesTold → Result Text Stop → Type 0
-ReadsFile file before now parsed = (given : Given) × HasRead file given before now × GivesText given before now parsed
+-- the file was read as a model, or why it wasn't
+abbrev pub ReadsFile : List ℕ → FilesTold → FilesTold → Result (List source.Numbered) Stop → Type 0
+ReadsFile file before now parsed = (given : Given) × HasRead file given before now × GivesModel given before now parsed
 
 -- the status that a stop means
 abbrev pub meant_by : Stop → Status
@@ -63,10 +65,14 @@ meant_by Unread = status.Unread
 meant_by Unwritten = status.Unwritten
 meant_by NoMemory = status.NoMemory
 
+-- the end of a check with all its replies
+abbrev pub ended_with : List Reply → Status
+ended_with replies = if some_undecided replies then status.Undecided else status.Finished
+
 -- the end that a check reached
-abbrev pub reached_by : Result (Unit {0}) Stop → Status
-reached_by (Ok _) = status.Finished
-reached_by (Err stop) = meant_by stop
+abbrev pub reached_by : List Reply → Result (Unit {0}) Stop → Status
+reached_by replies (Ok _) = ended_with replies
+reached_by replies (Err stop) = meant_by stop
 
 -- the line on err that goes with a stop of a run on this file
 abbrev pub stop_line : List ℕ → Stop → List ℕ
@@ -82,17 +88,17 @@ HasLine file given (Err Unwritten) = Unit {0}
 HasLine file given (Err stop) = IsErrLine given (meant_by stop) (stop_line file stop)
 
 -- the facts of a check of this file, but for its end on err
-pub record Checks (file : List ℕ) (given : Given) (files files' : FilesTold) (replies : List Reply) (out out' : SinkTold)
+pub record Checks (m : Meanings) (file : List ℕ) (given : Given) (files files' : FilesTold) (replies : List Reply) (out out' : SinkTold)
     (stopped : Result (Unit {0}) Stop) : Type 0 where
   pub read : HasRead file given files files'
-  pub cause : IsCause given files files' (reached_by stopped)
-  pub made : AreMade given (reached_by stopped) replies
-  pub output : IsOutput (reached_by stopped) replies out out'
+  pub cause : IsCause given files files' (reached_by replies stopped)
+  pub made : AreMade m given (reached_by replies stopped) replies
+  pub output : IsOutput (reached_by replies stopped) replies out out'
   pub line : HasLine file given stopped
 
 -- a check of this file was given something of which its facts are true
-abbrev pub IsChecked : List ℕ → FilesTold → FilesTold → List Reply → SinkTold → SinkTold → Result (Unit {0}) Stop → Type 0
-IsChecked file files files' replies out out' stopped = (given : Given) × Checks file given files files' replies out out' stopped
+abbrev pub IsChecked : Meanings → List ℕ → FilesTold → FilesTold → List Reply → SinkTold → SinkTold → Result (Unit {0}) Stop → Type 0
+IsChecked m file files files' replies out out' stopped = (given : Given) × Checks m file given files files' replies out out' stopped
 
 -- a stop is reported on err, or that memory is wanting for it; behind a write to out that failed err is left as it was
 abbrev pub Reports : List ℕ → Stop → SinkTold → SinkTold → Status → Type 0

@@ -1,13 +1,13 @@
--- What it does to the replies and to a sink to tell one reply, and to tell all replies to a text.
+-- What it does to the replies and to a sink to tell one reply, and to tell all replies to a model.
 use Rattle.std.specs.Prelude.{◌≡◌, List, [], ◌∷◌, ◌++◌, Result, Ok, Err}
-use Rattle.theory_meaning.specs.Point.{Name}
-use Rattle.theory_meaning.specs.Tree.{Line}
+use Rattle.theory_meaning.specs.Deciding.{Meanings}
+use Rattle.theory_meaning.specs.Text.{Numbered}
 use Rattle.theory_edge.specs.Sinks.{SinkTold}
 use Rattle.theory_cli.specs.declared.reply.Reply.{Reply}
 use Rattle.theory_cli.specs.declared.reply.Reply.TheVariants as reply
 use Rattle.theory_cli.specs.declared.session.Halt.{Halt}
 use Rattle.theory_cli.specs.declared.session.Halt.TheVariants.{Unwritten, NoMemory}
-use Rattle.theory_cli.specs.Session.{Asked, IsAnswerAbout, AreReplies, AreFirstReplies, reply_text}
+use Rattle.theory_cli.specs.Session.{Asked, IsAnswer, AreReplies, AreFirstReplies, reply_text}
 use Rattle.theory_cli.specs.Taking.{IsTold, IsCutOff, TookReplies, CutInLast}
 
 -- one reply: it is kept and its print is written, or neither
@@ -17,9 +17,9 @@ Tells reply old new before now (Err Unwritten) = (new ≡ old ++ reply ∷ []) �
 Tells reply old new before now (Err NoMemory) = (new ≡ old) × (now ≡ before)
 
 -- the reply is the answer to this claim
-abbrev pub IsAnswering : Name → Name → List Line → Asked → Reply → Type 0
-IsAnswering model x rows asked (reply.Created c) = ⊥
-IsAnswering model x rows asked (reply.Answered a) = IsAnswerAbout model x rows asked a
+abbrev pub IsAnswering : Meanings → List Numbered → Asked → Reply → Type 0
+IsAnswering m lines asked (reply.Created c) = ⊥
+IsAnswering m lines asked (reply.Answered a) = IsAnswer m lines asked a
 
 -- one reply with this fact is told, or none is
 abbrev pub TellsOne : (Reply → Type 0) → List Reply → List Reply → SinkTold → SinkTold → Result (Unit {0}) Halt → Type 0
@@ -27,8 +27,8 @@ TellsOne IsMet old new before now (Ok _) = (r : Reply) × IsMet r × (new ≡ ol
 TellsOne IsMet old new before now (Err Unwritten) = (r : Reply) × IsMet r × (new ≡ old ++ r ∷ []) × IsCutOff (reply_text r) before now
 TellsOne IsMet old new before now (Err NoMemory) = (new ≡ old) × (now ≡ before)
 
--- all replies to a text, or a beginning of them, with their prints
-abbrev pub Answers : Name → Name → List Line → List Reply → SinkTold → SinkTold → Result (Unit {0}) Halt → Type 0
-Answers model x rows replies before now (Ok _) = AreReplies model x rows replies × TookReplies replies before now
-Answers model x rows replies before now (Err Unwritten) = AreFirstReplies model x rows replies × CutInLast replies before now
-Answers model x rows replies before now (Err NoMemory) = AreFirstReplies model x rows replies × TookReplies replies before now
+-- all replies to a model, or a beginning of them, with their prints
+abbrev pub Answers : Meanings → List Numbered → List Reply → SinkTold → SinkTold → Result (Unit {0}) Halt → Type 0
+Answers m lines replies before now (Ok _) = AreReplies m lines replies × TookReplies replies before now
+Answers m lines replies before now (Err Unwritten) = AreFirstReplies m lines replies × CutInLast replies before now
+Answers m lines replies before now (Err NoMemory) = AreFirstReplies m lines replies × TookReplies replies before now

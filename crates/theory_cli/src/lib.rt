@@ -8,9 +8,11 @@
 #![tactic(auto)]
 
 mod answer;
+mod asking;
 mod causes;
 mod cli;
 mod entry;
+mod not_yet;
 mod parsing;
 mod printing;
 mod refusal;
@@ -20,8 +22,8 @@ mod running;
 mod session;
 mod status;
 
-pub use cli::{Outcome, theory};
+pub use cli::theory;
 pub use entry::{NoWords, program};
 pub use printing::print;
-pub use reply::{Created, Replies, Reply};
+pub use reply::{Created, Outcome, Replies, Reply};
 pub use status::Status;

@@ -1,4 +1,4 @@
-ghost use Rattle.std.specs.Prelude.{◌≡◌, ◌≤◌, ◌⊎◌, ℕ, List, Some, length};
+ghost use Rattle.std.specs.Prelude.{◌≡◌, ◌⊎◌, ℕ, List, Some};
 ghost use Rattle.theory_meaning.specs.declared.words.ModelKind.TheVariants as model_kind;
 ghost use Rattle.theory_meaning.specs.ModelFault.{model_fault};
 ghost use Rattle.theory_meaning.specs.Text as plain;
@@ -7,30 +7,27 @@ ghost use Rattle.theory_grammar.specs.Texts.{SpellsLines, IsFirstFault};
 ghost use Rattle.theory_syntax.specs.Plain.{lines_of};
 ghost use Rattle.theory_model.specs.Checked as checked;
 ghost use Rattle.theory_text.specs.Answers as answers;
-ghost use Rattle.theory_cli.specs.Refusal as refusal;
 ghost use Rattle.theory_cli.specs.Running.{StopsAt, IsParsed};
 
+use crate::not_yet::first_not_yet;
 use crate::refusal::Refusal;
 use crate::running::Stop;
 use std::alloc::Global;
-use std::cmp::max;
 use theory_model::{Model, ModelFault, ModelKind, check, text_of};
-use theory_one_variable::{NotOneVariable, Text, one_variable};
 use theory_text::{TextError, TextKind, read_text};
 
-/// The text that the bytes spell; its own faults come before those of its model.
-pub fn parse(alloc: Global, bytes: &[u8]) -> Result<Text, Stop>
+/// The model that the bytes spell; faults of the text come before those of the model.
+pub fn parse(alloc: Global, bytes: &[u8]) -> Result<Model, Stop>
     ensures { IsParsed bytes.now result }
 {
     let lines = match read_text(alloc, bytes) {
         Ok(lines) => lines,
         Err(error) => return Err(text_stop(error)),
     };
-    let model = match check(alloc, lines) {
-        Ok(model) => model,
-        Err(fault) => return Err(model_stop(fault)),
-    };
-    decide(alloc, &model, last_line(bytes))
+    match check(alloc, lines) {
+        Ok(model) => ready(model),
+        Err(fault) => Err(model_stop(fault)),
+    }
 }
 
 fn text_stop(error: TextError) -> Stop
@@ -55,30 +52,12 @@ fn model_stop(fault: ModelFault) -> Stop
     }
 }
 
-// The one-variable text that a checked model is; `last` is the number of the text's last line.
-fn decide(alloc: Global, model: &Model, last: u32) -> Result<Text, Stop>
-    ensures { (bytes : List ℕ) → SpellsLines bytes (lines_of model.now) →
-        last ≡ refusal.last_line bytes → IsParsed bytes result }
+// The model, where each of its lines is answered.
+fn ready(model: Model) -> Result<Model, Stop>
+    ensures { (bytes : List ℕ) → SpellsLines bytes (lines_of model) → IsParsed bytes result }
 {
-    match one_variable(alloc, text_of(model).as_slice(), last) {
-        Ok(text) => Ok(text),
-        Err(NotOneVariable::NotYet(line)) => Err(Stop::Refused(Refusal::NotYet(line))),
-        Err(NotOneVariable::Memory) => Err(Stop::NoMemory),
+    match first_not_yet(text_of(&model).as_slice()) {
+        Some(line) => Err(Stop::Refused(Refusal::NotYet(line))),
+        None => Ok(model),
     }
-}
-
-// The number of the last line; a line feed at the very end opens no further one.
-fn last_line(bytes: &[u8]) -> u32
-    requires { length bytes.now ≤ 65536 }
-    ensures { result ≡ refusal.last_line bytes.now }
-{
-    let mut lines = 0;
-    let mut open = false;
-    for byte in bytes {
-        if !open {
-            lines += 1;
-        }
-        open = *byte != b'\n';
-    }
-    max(1, lines)
 }

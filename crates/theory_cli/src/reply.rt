@@ -1,5 +1,6 @@
 ghost use Rattle.std.specs.Prelude.{◌≡◌, [], ◌∷◌, ◌++◌, OnOk, OnErr};
 
+use crate::status::Status;
 use std::alloc::Global;
 use std::marker::Model;
 use theory_points::{Name, NoMemory};
@@ -62,4 +63,11 @@ impl Replies {
         self.items.push(reply)?;
         Ok(())
     }
+}
+
+/// What a run leaves: how it ended, and the replies that were made, in their order.
+#[derive(Drop)]
+pub struct Outcome {
+    pub status: Status,
+    pub replies: Replies,
 }

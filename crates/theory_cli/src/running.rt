@@ -1,17 +1,19 @@
 ghost use Rattle.std.specs.Prelude.{◌≡◌, List, ℕ, [], map, MatchOption, string_bytes};
+ghost use Rattle.theory_decision.specs.Engine.{engine};
 ghost use Rattle.theory_cli.specs.Command.{IsCommand, check_words};
 ghost use Rattle.theory_cli.specs.Run.{IsRun};
 ghost use Rattle.theory_cli.specs.Running.{ReadsFile, IsChecked};
 
 use crate::parsing::parse;
 use crate::refusal::Refusal;
-use crate::reply::Replies;
+use crate::reply::{Outcome, Replies};
 use crate::report::report;
 use crate::session::{Halt, reply_to};
-use crate::status::Status;
+use crate::status::{Status, ended_with};
 use std::alloc::Global;
 use theory_edge::{EndFault, Files, Sink};
-use theory_one_variable::Text;
+use theory_model::Model;
+use theory_search::Policies;
 
 /// Why a check of a file stops before its end.
 #[derive(Clone, Copy, Debug, PartialEq, Eq)]
@@ -45,46 +47,53 @@ pub fn file_of(words: &[String]) -> Option<&String>
 pub fn run<F: Files, O: Sink, E: Sink>(
     alloc: Global,
     file: &String,
+    policies: &Policies,
     files: &mut F,
     out: &mut O,
     err: &mut E,
-    replies: &mut Replies,
-) -> Status
-    requires { replies.old ≡ [] }
-    ensures { IsRun (check_words (string_bytes file.now))
+) -> Outcome
+    ensures { IsRun engine (check_words (string_bytes file.now))
         record { files = F.told files.old; out = O.told out.old; err = E.told err.old }
         record { files = F.told files.new; out = O.told out.new; err = E.told err.new }
-        result replies.new }
+        result.status result.replies }
 {
-    match check(alloc, file, files, out, replies) {
-        Ok(()) => Status::Finished,
-        Err(stop) => report(alloc, file, stop, err),
+    let mut replies = Replies::new(alloc);
+    match check(alloc, file, policies, files, out, &mut replies) {
+        Ok(()) => Outcome {
+            status: ended_with(&replies),
+            replies,
+        },
+        Err(stop) => Outcome {
+            status: report(alloc, file, stop, err),
+            replies,
+        },
     }
 }
 
 fn check<F: Files, O: Sink>(
     alloc: Global,
     file: &String,
+    policies: &Policies,
     files: &mut F,
     out: &mut O,
     replies: &mut Replies,
 ) -> Result<(), Stop>
     requires { replies.old ≡ [] }
-    ensures { IsChecked (string_bytes file.now) (F.told files.old) (F.told files.new)
+    ensures { IsChecked engine (string_bytes file.now) (F.told files.old) (F.told files.new)
         replies.new (O.told out.old) (O.told out.new) result }
 {
-    let text = match read_file(alloc, file, files) {
-        Ok(text) => text,
+    let model = match read_file(alloc, file, files) {
+        Ok(model) => model,
         Err(stop) => return Err(stop),
     };
-    match reply_to(alloc, &text, out, replies) {
+    match reply_to(alloc, &model, policies, out, replies) {
         Ok(()) => Ok(()),
         Err(Halt::Unwritten) => Err(Stop::Unwritten),
         Err(Halt::NoMemory) => Err(Stop::NoMemory),
     }
 }
 
-fn read_file<F: Files>(alloc: Global, file: &String, files: &mut F) -> Result<Text, Stop>
+fn read_file<F: Files>(alloc: Global, file: &String, files: &mut F) -> Result<Model, Stop>
     ensures { ReadsFile (string_bytes file.now) (F.told files.old) (F.told files.new) result }
 {
     let name = match file.clone() {

@@ -1,15 +1,21 @@
-ghost use Rattle.std.specs.Prelude.{◌≡◌, [], ◌∷◌, ◌++◌, None};
-ghost use Rattle.theory_one_variable.specs.Rows.{row_lines, atom_claim};
-ghost use Rattle.theory_cli.specs.Session.{IsCreation, reply_text};
+ghost use Rattle.std.specs.Prelude.{◌≡◌, [], ◌∷◌, ◌++◌, None, Contains};
+ghost use Rattle.theory_meaning.specs.Edit.{lines_alone};
+ghost use Rattle.theory_decision.specs.Engine.{engine};
+ghost use Rattle.theory_syntax.specs.Plain.{claim_of, lines_of};
+ghost use Rattle.theory_cli.specs.NotYet.{first_not_yet};
+ghost use Rattle.theory_cli.specs.Session.{IsCreation, asked_in, reply_text};
+ghost use Rattle.theory_cli.specs.Session as session;
 ghost use Rattle.theory_cli.specs.Telling.{Tells, TellsOne, IsAnswering, Answers};
 
-use crate::answer::{FIRST_VERSION, answer};
+use crate::answer::{FIRST_VERSION, answer, model_name};
 use crate::printing::print;
 use crate::reply::{Created, Replies, Reply};
 use std::alloc::Global;
 use theory_edge::Sink;
-use theory_one_variable::{Role, Row, Text};
-use theory_points::NoMemory;
+use theory_model::{Model, text_of};
+use theory_points::{Name, NoMemory};
+use theory_search::Policies;
+use theory_syntax::{Claim, Line};
 
 /// Why the replies of a check end early.
 #[derive(Clone, Copy, Debug, PartialEq, Eq)]
@@ -31,29 +37,30 @@ impl From<NoMemory> for Halt {
     }
 }
 
-/// Makes, keeps and writes the replies to a text, its creation first and then each answer.
+/// Makes, keeps and writes the replies to a model, its creation first and then each answer.
 pub fn reply_to<O: Sink>(
     alloc: Global,
-    text: &Text,
+    model: &Model,
+    policies: &Policies,
     out: &mut O,
     replies: &mut Replies,
 ) -> Result<(), Halt>
-    requires { replies.old ≡ [] }
-    ensures { Answers text.now.model text.now.variable
-        (row_lines text.now.variable text.now.rows.items) replies.new (O.told out.old)
+    requires none { replies.old ≡ [] }
+    requires ready { first_not_yet (lines_of model.now) ≡ None }
+    ensures { Answers engine (lines_of model.now) replies.new (O.told out.old)
         (O.told out.new) result }
 {
-    if let Err(halt) = tell_creation(alloc, text, out, replies) {
+    if let Err(halt) = tell_creation(alloc, model, out, replies) {
         return Err(halt);
     }
-    for row in &text.rows {
-        match row.role {
-            Role::Assumption => {}
-            Role::Claim => {
-                if let Err(halt) = tell_answer(alloc, text, row, out, replies) {
+    for numbered in text_of(model) {
+        match &numbered.line {
+            Line::Claim(label, _, claim) => {
+                if let Err(halt) = tell_answer(alloc, model, label, claim, policies, out, replies) {
                     return Err(halt);
                 }
             }
+            _ => {}
         }
     }
     Ok(())
@@ -61,15 +68,15 @@ pub fn reply_to<O: Sink>(
 
 fn tell_creation<O: Sink>(
     alloc: Global,
-    text: &Text,
+    model: &Model,
     out: &mut O,
     replies: &mut Replies,
 ) -> Result<(), Halt>
-    ensures { TellsOne (IsCreation text.now.model) replies.old replies.new (O.told out.old)
-        (O.told out.new) result }
+    ensures { TellsOne (IsCreation (session.model_name (lines_alone (lines_of model.now))))
+        replies.old replies.new (O.told out.old) (O.told out.new) result }
 {
     let created = Created {
-        model: text.model.copy(alloc)?,
+        model: model_name(alloc, text_of(model).as_slice())?,
         version: FIRST_VERSION,
     };
     tell(alloc, Reply::Created(created), out, replies)
@@ -77,17 +84,21 @@ fn tell_creation<O: Sink>(
 
 fn tell_answer<O: Sink>(
     alloc: Global,
-    text: &Text,
-    row: &Row,
+    model: &Model,
+    label: &Name,
+    claim: &Claim,
+    policies: &Policies,
     out: &mut O,
     replies: &mut Replies,
 ) -> Result<(), Halt>
-    ensures { TellsOne (IsAnswering text.now.model text.now.variable
-        (row_lines text.now.variable text.now.rows.items)
-        (row.now.label, None, atom_claim text.now.variable row.now.atom)) replies.old replies.new
-        (O.told out.old) (O.told out.new) result }
+    requires ready { first_not_yet (lines_of model.now) ≡ None }
+    requires own { Contains (asked_in (lines_alone (lines_of model.now)))
+        (label.now, None, claim_of claim.now) }
+    ensures { TellsOne (IsAnswering engine (lines_of model.now)
+        (label.now, None, claim_of claim.now)) replies.old replies.new (O.told out.old)
+        (O.told out.new) result }
 {
-    let answered = answer(alloc, text, row)?;
+    let answered = answer(alloc, model, label, claim, policies)?;
     tell(alloc, Reply::Answered(answered), out, replies)
 }
 

@@ -1,11 +1,18 @@
 ghost use Rattle.std.specs.Prelude.{◌≡◌};
 ghost use Rattle.theory_cli.specs.Ending.{exit_number};
+ghost use Rattle.theory_cli.specs.Running as running;
+ghost use Rattle.theory_cli.specs.Session as session;
+
+use crate::reply::{Replies, Reply};
+use theory_meaning::Verdict;
 
 /// How a run ended.
 #[derive(Clone, Copy, Debug, PartialEq, Eq)]
 pub enum Status {
-    /// Every reply was made and written.
+    /// Every reply was made and written, and no claim is undecided.
     Finished,
+    /// Every reply was made and written, and some claim is undecided.
+    Undecided,
     /// The words are no command.
     NoCommand,
     /// The text of the file or its model is refused, or not decided yet.
@@ -25,11 +32,52 @@ impl Status {
     {
         match self {
             Status::Finished => 0,
+            Status::Undecided => 1,
             Status::NoCommand => 2,
             Status::Refused => 3,
             Status::Unread => 5,
             Status::Unwritten => 6,
             Status::NoMemory => 9,
         }
+    }
+}
+
+/// How a run ends that made and wrote all these replies.
+pub fn ended_with(replies: &Replies) -> Status
+    ensures { result ≡ running.ended_with replies.now }
+{
+    if some_undecided(replies.as_slice()) {
+        Status::Undecided
+    } else {
+        Status::Finished
+    }
+}
+
+fn some_undecided(replies: &[Reply]) -> bool
+    ensures { result ≡ session.some_undecided replies.now }
+{
+    for reply in replies {
+        if is_undecided(reply) {
+            return true;
+        }
+    }
+    false
+}
+
+fn is_undecided(reply: &Reply) -> bool
+    ensures { result ≡ session.is_undecided reply.now }
+{
+    match reply {
+        Reply::Created(_) => false,
+        Reply::Answered(answer) => is_left(answer.verdict),
+    }
+}
+
+fn is_left(verdict: Verdict) -> bool
+    ensures { result ≡ session.is_left verdict }
+{
+    match verdict {
+        Verdict::Undecided => true,
+        Verdict::Holds | Verdict::Fails | Verdict::Contradictory | Verdict::Mixed => false,
     }
 }

@@ -9,3 +9,4 @@ mod engine;
 mod halves;
 
 pub use engine::Engine;
+pub use halves::written_half;

@@ -1,8 +1,8 @@
 //! What is written of deciding a formula: choice, search, leaves, witness, half and condition.
 //!
 //! The definitions stand in `specs/`: `Choice`, `Finding` and `Search` with its `Outcomes`,
-//! `Regions`, `Witness`, and `Answers`. What they mean is said by `laws_choice`,
-//! `laws_search`, `laws_witness` and `laws_answers`.
+//! `Regions`, `Candidates` and `Witness`, `Answers`, and `Engine`, what an engine may answer. What
+//! they mean is said by `laws_choice`, `laws_search`, `laws_witness` and `laws_answers`.
 #![tactic(auto)]
 
 mod candidate;

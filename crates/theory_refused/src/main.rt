@@ -1,22 +1,17 @@
-//! Runs the top call on a file whose text is refused, and ends with its status.
+//! Runs the program on a file whose text is refused, and ends with its status.
 #![tactic(auto)]
 
 use std::alloc::{AllocError, Global};
 use std::process::ExitCode;
-use theory_cli::theory;
+use theory_cli::{NoWords, program};
 use theory_edge::{RealFiles, RealSink};
 
 fn main(rt: HostRuntime) -> ExitCode {
     let mut files = RealFiles::new(&rt);
     let mut out = RealSink::output(rt.stdout());
     let mut err = RealSink::errors(rt.stderr());
-    match words(rt.alloc()) {
-        Ok(words) => {
-            let outcome = theory(rt.alloc(), &words, &mut files, &mut out, &mut err);
-            ExitCode::from(outcome.status.number())
-        }
-        Err(_) => ExitCode::FAILURE,
-    }
+    let words = words(rt.alloc()).map_err(|_| NoWords::NoMemory);
+    ExitCode::from(program(rt.alloc(), words, &mut files, &mut out, &mut err))
 }
 
 fn words(alloc: Global) -> Result<Vec<String>, AllocError> {

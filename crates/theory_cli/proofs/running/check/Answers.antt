@@ -1,20 +1,21 @@
 use Rattle.std.proofs.Common.{string_bytes, Ok}
 use Rattle.theory_cli.specs.declared.session.Halt.TheVariants.{Unwritten, NoMemory}
+use Rattle.theory_decision.specs.Engine.{engine}
 use Rattle.theory_cli.proofs.CheckLemmas.{not_read, answered, answered_halt}
 use Rattle.theory_cli.proofs.running.check.Goals as goal
 
 pub returns-in-Err : goal.returns-in-Err
-returns-in-Err g c = not_read (string_bytes c.args.file.now) _ _ _ _ c.in-Err.stop c.requires c.in-Err.ensures
+returns-in-Err g c = not_read engine (string_bytes c.args.file.now) _ _ _ _ c.in-Err.stop c.requires c.in-Err.ensures
 
 pub returns-in-Ok-reply_to : goal.returns-in-Ok-reply_to
-returns-in-Ok-reply_to g c = answered (string_bytes c.args.file.now) _ _ _ c.in-Ok.text _ _ (Ok tt) c.in-Ok.ensures c.in-Ok-reply_to.ensures
+returns-in-Ok-reply_to g c = answered engine (string_bytes c.args.file.now) _ _ _ c.in-Ok.model _ _ (Ok tt) c.in-Ok.ensures c.in-Ok-reply_to.ensures
 
 pub returns-in-Err-Unwritten : goal.returns-in-Err-Unwritten
 returns-in-Err-Unwritten g c =
-    answered_halt (string_bytes c.args.file.now) _ _ _ c.in-Ok.text _ _ _ Unwritten c.in-Err-Unwritten.field-0-is c.in-Ok.ensures
+    answered_halt engine (string_bytes c.args.file.now) _ _ _ c.in-Ok.model _ _ _ Unwritten c.in-Err-Unwritten.field-0-is c.in-Ok.ensures
     c.in-Err-Unwritten.ensures
 
 pub returns : goal.returns
 returns g c =
-    answered_halt (string_bytes c.args.file.now) _ _ _ c.in-Ok.text _ _ _ NoMemory c.in-Err-NoMemory.field-0-is c.in-Ok.ensures
+    answered_halt engine (string_bytes c.args.file.now) _ _ _ c.in-Ok.model _ _ _ NoMemory c.in-Err-NoMemory.field-0-is c.in-Ok.ensures
     c.in-Err-NoMemory.ensures

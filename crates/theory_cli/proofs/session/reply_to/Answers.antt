@@ -1,22 +1,37 @@
-use Rattle.theory_cli.proofs.SessionLemmas.{passed_over, answered_row, halted}
+use Rattle.std.proofs.Common.{◌≡◌, ◌<◌, length, get_or, List, ◌∙◌, subst}
+use Rattle.theory_syntax.specs.declared.text.Numbered.{Numbered}
+use Rattle.theory_decision.specs.Engine.{engine}
+use Rattle.theory_cli.proofs.SessionLemmas.{passed_over, asks_none, answered_claim, is_own, halted}
 use Rattle.theory_cli.proofs.session.reply_to.Goals as goal
-use Rattle.theory_cli.proofs.session.reply_to.Goals.{in-Assumption, in-Claim+in_default-tell_answer}
+use Rattle.theory_cli.proofs.session.reply_to.Goals.{in-Claim+in_default-tell_answer, in_default-line}
+
+pub tell_answer-requires-clause-own : goal.tell_answer-requires-clause-own
+tell_answer-requires-clause-own g c =
+    let same = c.deref-numbered-items.ensures.value ∙ c.text_of.ensures.lines in
+    let within = subst (λ (ls : List Numbered). c.loop-numbered.numbered-index < length ls) same c.loop-numbered-test.true in
+    let is = subst (λ (ls : List Numbered). c.numbered-item.result ≡ get_or ls c.loop-numbered.numbered-index c.numbered-item.result) same c.numbered-item.is in
+    is_own engine c.args.model.now c.loop-numbered.numbered-index c.numbered-item.result within is c.in-Claim.label c.in-Claim.field-1
+    c.in-Claim.claim c.in-Claim.is c.requires.ready _ _ _ c.loop-numbered.invariant
 
 pub returns-in-Err-tell_answer : goal.returns-in-Err-tell_answer
 returns-in-Err-tell_answer g c =
-    let within = rw c.deref-row-items.ensures.value at c.loop-row-test.true in
-    let row = rw c.deref-row-items.ensures.value at c.row-item.is in
-    halted c.args.text.now.model c.args.text.now.variable c.args.text.now.rows.items c.loop-row.row-index c.row-item.result within row
-    c.in-Err-tell_answer.halt _ _ _ _ _ c.in-Claim.is c.in-Err-tell_answer.ensures c.loop-row.invariant
+    let same = c.deref-numbered-items.ensures.value ∙ c.text_of.ensures.lines in
+    let within = subst (λ (ls : List Numbered). c.loop-numbered.numbered-index < length ls) same c.loop-numbered-test.true in
+    let is = subst (λ (ls : List Numbered). c.numbered-item.result ≡ get_or ls c.loop-numbered.numbered-index c.numbered-item.result) same c.numbered-item.is in
+    halted engine c.args.model.now c.loop-numbered.numbered-index c.numbered-item.result within is c.in-Claim.label c.in-Claim.field-1
+    c.in-Claim.claim c.in-Claim.is c.requires.ready c.in-Err-tell_answer.halt _ _ _ _ _ c.in-Err-tell_answer.ensures c.loop-numbered.invariant
 
-pub loop-row-preserved : goal.loop-row-preserved
-loop-row-preserved g c =
-    let within = rw c.deref-row-items.ensures.value at c.loop-row-test.true in
-    let row = rw c.deref-row-items.ensures.value at c.row-item.is in
-    elim c.match-row.branch [
-      | in-Assumption w ↦ rw (w.out-is, w.replies-is) (passed_over c.args.text.now.model c.args.text.now.variable c.args.text.now.rows.items
-          c.loop-row.row-index c.row-item.result within row _ _ _ w.in-Assumption.is c.loop-row.invariant)
+pub loop-numbered-preserved : goal.loop-numbered-preserved
+loop-numbered-preserved g c =
+    let same = c.deref-numbered-items.ensures.value ∙ c.text_of.ensures.lines in
+    let within = subst (λ (ls : List Numbered). c.loop-numbered.numbered-index < length ls) same c.loop-numbered-test.true in
+    let is = subst (λ (ls : List Numbered). c.numbered-item.result ≡ get_or ls c.loop-numbered.numbered-index c.numbered-item.result) same c.numbered-item.is in
+    elim c.match-numbered.branch [
       | in-Claim+in_default-tell_answer w ↦
-          rw (w.out-is, w.replies-is) (answered_row c.args.text.now.model c.args.text.now.variable c.args.text.now.rows.items c.loop-row.row-index
-          c.row-item.result within row _ _ _ _ _ w.in-Claim.is w.in_default-tell_answer.ensures c.loop-row.invariant)
+          rw (w.out-is, w.replies-is) (answered_claim engine c.args.model.now c.loop-numbered.numbered-index c.numbered-item.result within is
+          w.in-Claim.label w.in-Claim.field-1 w.in-Claim.claim w.in-Claim.is c.requires.ready _ _ _ _ _ w.in_default-tell_answer.ensures
+          c.loop-numbered.invariant)
+      | in_default-line w ↦
+          rw (w.out-is, w.replies-is) (passed_over engine c.args.model.now c.loop-numbered.numbered-index c.numbered-item.result within is _ _ _
+          (asks_none c.numbered-item.result.line w.in_default-line.not-Claim) c.loop-numbered.invariant)
     ]

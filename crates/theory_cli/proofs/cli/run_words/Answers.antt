@@ -1,9 +1,0 @@
-use Rattle.std.proofs.Common.{refl, map, string_bytes}
-use Rattle.theory_cli.proofs.RunLemmas.{run_of, no_command_run}
-use Rattle.theory_cli.proofs.cli.run_words.Goals as goal
-
-pub returns-in-Some : goal.returns-in-Some
-returns-in-Some g c = run_of (map string_bytes c.args.words.now) _ _ _ _ _ c.in-Some.ensures c.run.ensures
-
-pub returns-in-None : goal.returns-in-None
-returns-in-None g c = no_command_run _ _ _ _ _ c.in-None.ensures c.requires refl refl c.report_no_command.ensures

@@ -1,5 +1,0 @@
-use Rattle.theory_one_variable.proofs.TriedLemmas.{AddedBefore}
-use Rattle.theory_one_variable.proofs.candidates.add_middles.Given as goal
-
-abbrev pub invariant-loop-k : goal.invariant-loop-k
-invariant-loop-k l = AddedBefore l.roots l.initial.tried.items l.tried.items l.k
