@@ -20,17 +20,27 @@ use std::{env, io};
 use tables::{Tally, run_tables};
 use theory_edge::{RealFiles, RealSink};
 use theory_rows_method::fault::RowFault;
+use theory_search::{Policies, four_policies};
 
 fn main(rt: HostRuntime) -> ExitCode {
-    let mut files = RealFiles::new(&rt);
-    let mut out = RealSink::output(rt.stdout());
-    let told = match words(&rt) {
-        Ok(names) => run_tables(rt.alloc(), &names, &mut files, &mut out),
-        Err(_) => Err(RowFault::Memory),
-    };
-    match told {
+    match run(&rt) {
         Ok(Tally { wrong: 0, .. }) => ExitCode::SUCCESS,
         _ => ExitCode::FAILURE,
+    }
+}
+
+/// Runs the tables that the words name, with a policy of each order.
+fn run(rt: &HostRuntime) -> Result<Tally, RowFault> {
+    let policies = four_policies!(rt.alloc());
+    run_on(rt, &policies)
+}
+
+fn run_on(rt: &HostRuntime, policies: &Policies) -> Result<Tally, RowFault> {
+    let mut files = RealFiles::new(rt);
+    let mut out = RealSink::output(rt.stdout());
+    match words(rt) {
+        Ok(names) => run_tables(rt.alloc(), policies, &names, &mut files, &mut out),
+        Err(_) => Err(RowFault::Memory),
     }
 }
 

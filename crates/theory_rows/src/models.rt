@@ -1,13 +1,11 @@
-//! Calls on models: their first fault, listed symbols, one-variable texts.
+//! Calls on models: their first fault and listed symbols.
 
 use crate::reading::lines;
-use crate::spelling::relation;
 use std::alloc::Global;
 use theory_model::{Model, ModelFault, ModelKind, check, have_identifiers, kind_name, symbols};
-use theory_one_variable::{NotOneVariable, Role, Row, Side, Term, one_variable};
 use theory_points::{Bytes, Name};
 use theory_rows_method::fault::RowFault;
-use theory_rows_method::telling::{add_apart, fraction, numbered, told};
+use theory_rows_method::telling::{add_apart, numbered, told};
 use theory_syntax::Lines;
 
 /// The model of lines whose names are identifiers, or its first fault.
@@ -52,47 +50,4 @@ pub fn listed(alloc: Global, bytes: &[u8], label: &str) -> Result<Bytes, RowFaul
         add_apart(&mut text, b", ", name.as_slice())?;
     }
     Ok(text)
-}
-
-/// The one-variable text that lines are, or the line at which they stop being one.
-pub fn one_variable_text(alloc: Global, bytes: &[u8], last: u32) -> Result<Bytes, RowFault> {
-    let lines = lines(alloc, bytes)?;
-    match one_variable(alloc, &lines, last) {
-        Ok(text) => {
-            let mut told = Bytes::from_slice(alloc, text.model.as_slice())?;
-            told.extend(b" of ")?;
-            told.extend(text.variable.as_slice())?;
-            for row in &text.rows {
-                add_row(alloc, &mut told, row)?;
-            }
-            Ok(told)
-        }
-        Err(NotOneVariable::NotYet(number)) => numbered(alloc, "NotYet", i128::from(number)),
-        Err(NotOneVariable::Memory) => Err(RowFault::Memory),
-    }
-}
-
-fn add_row(alloc: Global, text: &mut Bytes, row: &Row) -> Result<(), RowFault> {
-    text.extend(match row.role {
-        Role::Assumption => b"; assume ".as_slice(),
-        Role::Claim => b"; claim ".as_slice(),
-    })?;
-    text.extend(row.label.as_slice())?;
-    text.extend(b": ")?;
-    add_side(alloc, text, &row.atom.left)?;
-    text.extend(b" ")?;
-    text.extend(relation(row.atom.rel).as_bytes())?;
-    text.extend(b" ")?;
-    add_side(alloc, text, &row.atom.right)
-}
-
-fn add_side(alloc: Global, text: &mut Bytes, side: &Side) -> Result<(), RowFault> {
-    if side.negated {
-        text.extend(b"-")?;
-    }
-    match side.term {
-        Term::Variable => text.extend(b"it")?,
-        Term::Number(value) => text.extend(fraction(alloc, &value)?.as_slice())?,
-    }
-    Ok(())
 }

@@ -5,6 +5,7 @@ use theory_edge::{Files, Sink};
 use theory_points::Bytes;
 use theory_rows_method::fault::RowFault;
 use theory_rows_runs::escapes::bytes_of;
+use theory_search::Policies;
 
 /// The greatest number of bytes of a table.
 const MOST_BYTES: usize = 1 << 20;
@@ -19,13 +20,14 @@ pub struct Tally {
 /// Runs each table and prints each row that differs, and last how many rows there were.
 pub fn run_tables<F: Files, O: Sink>(
     alloc: Global,
+    policies: &Policies,
     names: &[String],
     files: &mut F,
     out: &mut O,
 ) -> Result<Tally, RowFault> {
     let mut tally = Tally { rows: 0, wrong: 0 };
     for name in names {
-        tally = run_table(alloc, name, tally, files, out)?;
+        tally = run_table(alloc, policies, name, tally, files, out)?;
     }
     let rows = tally.rows;
     let last = format!(in alloc; "{rows} rows\n")?;
@@ -42,6 +44,7 @@ fn write<O: Sink>(out: &mut O, piece: &[u8]) -> Result<(), RowFault> {
 
 fn run_table<F: Files, O: Sink>(
     alloc: Global,
+    policies: &Policies,
     name: &String,
     tally: Tally,
     files: &mut F,
@@ -53,13 +56,14 @@ fn run_table<F: Files, O: Sink>(
         Err(_) => return Err(RowFault::Memory),
     };
     match str::from_utf8(bytes.as_slice()) {
-        Ok(text) => run_lines(alloc, name.as_str(), text, tally, out),
+        Ok(text) => run_lines(alloc, policies, name.as_str(), text, tally, out),
         Err(_) => Err(RowFault::Unreadable),
     }
 }
 
 fn run_lines<O: Sink>(
     alloc: Global,
+    policies: &Policies,
     name: &str,
     text: &str,
     tally: Tally,
@@ -69,7 +73,7 @@ fn run_lines<O: Sink>(
     for line in text.lines() {
         if let Some(row) = read_row(alloc, line)? {
             tally.rows = tally.rows.saturating_add(1);
-            if !run_row(alloc, name, line, &row, out)? {
+            if !run_row(alloc, policies, name, line, &row, out)? {
                 tally.wrong = tally.wrong.saturating_add(1);
             }
         }
@@ -80,12 +84,13 @@ fn run_lines<O: Sink>(
 /// Whether the row has the answer that is owed; it is printed where it hasn't.
 fn run_row<O: Sink>(
     alloc: Global,
+    policies: &Policies,
     name: &str,
     line: &str,
     row: &Row<'_>,
     out: &mut O,
 ) -> Result<bool, RowFault> {
-    let found = match answer(alloc, row.call, &row.given) {
+    let found = match answer(alloc, policies, row.call, &row.given) {
         Ok(found) => found,
         Err(RowFault::Unreadable) => Bytes::from_slice(alloc, b"unreadable")?,
         Err(RowFault::Memory) => Bytes::from_slice(alloc, b"no memory")?,

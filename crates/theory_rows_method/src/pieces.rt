@@ -53,6 +53,16 @@ pub fn symbol(field: &str) -> Result<u8, RowFault> {
     }
 }
 
+/// The name of the symbol at a place.
+pub fn symbol_name(x: u8) -> Result<&'static str, RowFault> {
+    match x {
+        0 => Ok("x"),
+        1 => Ok("y"),
+        2 => Ok("z"),
+        _ => Err(RowFault::Unreadable),
+    }
+}
+
 /// The set of signs of a relation to 0.
 pub fn signs(field: &str) -> Result<Signs, RowFault> {
     match field {

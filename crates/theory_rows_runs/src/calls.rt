@@ -6,9 +6,15 @@ use std::alloc::Global;
 use theory_points::Bytes;
 use theory_rows_method::calls::field;
 use theory_rows_method::fault::RowFault;
+use theory_search::Policies;
 
 /// The answer of a call on numbers, ends, runs or errors; None for any other word.
-pub fn answer(alloc: Global, call: &str, given: &[&str]) -> Option<Result<Bytes, RowFault>> {
+pub fn answer(
+    alloc: Global,
+    policies: &Policies,
+    call: &str,
+    given: &[&str],
+) -> Option<Result<Bytes, RowFault>> {
     let first = field(given, 0);
     let second = field(given, 1);
     let third = field(given, 2);
@@ -18,7 +24,7 @@ pub fn answer(alloc: Global, call: &str, given: &[&str]) -> Option<Result<Bytes,
         "reads" => ends::reads(alloc, first, second),
         "writes" => ends::writes(alloc, first, second, third),
         "sure" => ends::sure(alloc, first, second),
-        "run" => run(alloc, given),
+        "run" => run(alloc, policies, given),
         "verdict" => runs::verdict(alloc, first, second),
         "message" => messages::message(alloc, first),
         "kinds" => messages::kinds(alloc, first),
@@ -27,9 +33,9 @@ pub fn answer(alloc: Global, call: &str, given: &[&str]) -> Option<Result<Bytes,
     })
 }
 
-fn run(alloc: Global, given: &[&str]) -> Result<Bytes, RowFault> {
+fn run(alloc: Global, policies: &Policies, given: &[&str]) -> Result<Bytes, RowFault> {
     let text = bytes_of(alloc, field(given, 4))?;
-    runs::ended(alloc, given, text.as_slice())
+    runs::ended(alloc, policies, given, text.as_slice())
 }
 
 fn of_number(

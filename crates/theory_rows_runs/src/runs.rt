@@ -8,6 +8,7 @@ use theory_points::Bytes;
 use theory_rows_method::calls::field;
 use theory_rows_method::fault::RowFault;
 use theory_rows_method::telling::told;
+use theory_search::Policies;
 use theory_verdict::{Cause, Half, Verdict, verdict_of};
 
 /// The ends of one run.
@@ -46,24 +47,34 @@ fn words(alloc: Global, command: &str) -> Result<Vec<String>, RowFault> {
     Ok(words)
 }
 
-fn run(alloc: Global, command: &str, ends: &mut Ends) -> Result<Status, RowFault> {
+fn run(
+    alloc: Global,
+    policies: &Policies,
+    command: &str,
+    ends: &mut Ends,
+) -> Result<Status, RowFault> {
     let words = words(alloc, command)?;
     let Ends { files, out, err } = ends;
-    Ok(theory(alloc, &words, files, out, err).status)
+    Ok(theory(alloc, &words, policies, files, out, err).status)
 }
 
 /// The status of a run, and what is written to each stream: its words, the name of the only file,
 /// the numbers of the reads and the writes to out that fail, and the text.
-pub fn ended(alloc: Global, given: &[&str], text: &[u8]) -> Result<Bytes, RowFault> {
+pub fn ended(
+    alloc: Global,
+    policies: &Policies,
+    given: &[&str],
+    text: &[u8],
+) -> Result<Bytes, RowFault> {
     let name = field(given, 1);
     let mut ends = Ends::new(alloc, name, text, field(given, 2), field(given, 3))?;
-    let status = run(alloc, field(given, 0), &mut ends)?;
+    let status = run(alloc, policies, field(given, 0), &mut ends)?;
     streams_told(alloc, status, ends.out.held(), ends.err.held())
 }
 
 /// The same of `check m`, where nothing fails.
-pub fn checked(alloc: Global, text: &[u8]) -> Result<Bytes, RowFault> {
-    ended(alloc, &["check m", "m", "", ""], text)
+pub fn checked(alloc: Global, policies: &Policies, text: &[u8]) -> Result<Bytes, RowFault> {
+    ended(alloc, policies, &["check m", "m", "", ""], text)
 }
 
 fn streams_told(alloc: Global, status: Status, out: &[u8], err: &[u8]) -> Result<Bytes, RowFault> {
@@ -86,6 +97,7 @@ fn add_stream(text: &mut Bytes, name: &[u8], held: &[u8]) -> Result<(), RowFault
 fn status_name(status: Status) -> &'static str {
     match status {
         Status::Finished => "finished",
+        Status::Undecided => "undecided",
         Status::Refused => "refused",
         Status::NoCommand => "no command",
         Status::Unread => "unread",

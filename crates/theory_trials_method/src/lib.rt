@@ -7,8 +7,6 @@ mod branches;
 #[cfg(test)]
 mod counts;
 #[cfg(test)]
-mod lines;
-#[cfg(test)]
 mod making;
 #[cfg(test)]
 mod signs;
