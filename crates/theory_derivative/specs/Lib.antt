@@ -1,0 +1,5 @@
+pub mod Derivative
+pub mod Differentiated
+pub mod Sentence
+pub mod Meaning
+pub mod Worked
