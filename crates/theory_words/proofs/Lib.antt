@@ -1,0 +1,6 @@
+pub mod Found
+pub mod FoundRows
+pub mod PlainWords
+pub mod Refusals
+pub mod SameNames
+pub mod SomeCommand
