@@ -1,4 +1,4 @@
--- Bytes that spell a model that is answered aren't refused.
+-- Bytes that spell a model aren't refused.
 use Rattle.std.proofs.Common.{◌≡◌, ℕ, List, Option, None, Some, sym, ap, ◌∙◌}
 use Rattle.theory_meaning.specs.Text.{Numbered}
 use Rattle.theory_meaning.specs.ModelFault as meaning
@@ -7,17 +7,12 @@ use Rattle.theory_grammar.specs.Spelled.{IsLine}
 use Rattle.theory_grammar.specs.Texts.{with_number}
 use Rattle.theory_grammar.proofs.Outcomes.{lines_have_one_outcome}
 use Rattle.theory_grammar.proofs.TextLaws.{one_text, text_not_fail}
-use Rattle.theory_cli.specs.NotYet.{first_not_yet}
-use Rattle.theory_cli.specs.Refusal.{IsRefusal, text_fault, model_fault, not_yet, SpellsModel}
+use Rattle.theory_cli.specs.Refusal.{IsRefusal, text_fault, model_fault, SpellsModel}
 
--- bytes that are refused spell no model that is answered
+-- bytes that are refused spell no model
 pub never_both : (bytes : List ℕ) (lines : List Numbered) (told : List ℕ) → SpellsModel bytes lines → IsRefusal bytes told → ⊥
 never_both bytes ls told s (text_fault f fails) = text_not_fail IsLine with_number lines_have_one_outcome bytes ls f s.spelled fails
 never_both bytes ls told s (model_fault lines f spelled fault) =
     let same : ls ≡ lines = one_text IsLine with_number lines_have_one_outcome bytes ls lines s.spelled spelled in
     let none : ◌≡◌ {A = Option ModelFault} None (Some f) = sym s.checked.faultless ∙ ap meaning.model_fault same ∙ fault in
-    absurd (cc)
-never_both bytes ls told s (not_yet lines n spelled checked is) =
-    let same : ls ≡ lines = one_text IsLine with_number lines_have_one_outcome bytes ls lines s.spelled spelled in
-    let none : ◌≡◌ {A = Option ℕ} None (Some n) = sym s.ready ∙ ap first_not_yet same ∙ is in
     absurd (cc)

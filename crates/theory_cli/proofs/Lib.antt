@@ -1,6 +1,8 @@
+pub mod NameLaws
+pub mod DistinctNames
+pub mod DerivativeNames
 pub mod ListedNames
 pub mod SessionLemmas
-pub mod AskingLemmas
 pub mod AnswerLemmas
 pub mod RunLemmas
 pub mod RefusalLemmas

@@ -4,7 +4,7 @@ use Rattle.std.specs.declared.vec.Vec.{Vec}
 use Rattle.std.specs.Global.{Global}
 use Rattle.theory_decision.specs.Engine.{engine}
 use Rattle.theory_cli.specs.declared.entry.NoWords.{NoWords}
-use Rattle.theory_cli.specs.declared.reply.Reply.{Reply}
+use Rattle.theory_session.specs.Run.{Reply}
 use Rattle.theory_cli.specs.declared.status.Status.{Status}
 use Rattle.theory_cli.specs.Run.{Ends, IsRun}
 use Rattle.theory_cli.specs.Program.{EndsProgram}

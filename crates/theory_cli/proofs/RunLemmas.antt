@@ -3,13 +3,14 @@ use Rattle.std.proofs.Common.{◌≡◌, ◌⊎◌, ℕ, ◌+◌, ◌-◌, ◌^�
 use Rattle.theory_meaning.specs.Deciding.{Meanings}
 use Rattle.theory_meaning.specs.Faults.{Rose}
 use Rattle.theory_edge.specs.Sinks.{SinkTold}
-use Rattle.theory_cli.specs.declared.reply.Reply.{Reply}
+use Rattle.theory_session.specs.Run.{Reply}
+use Rattle.theory_words.specs.Commands.{Command, check, derive, IsCommand, IsNoCommand}
 use Rattle.theory_cli.specs.declared.status.Status.{Status}
 use Rattle.theory_cli.specs.declared.status.Status.TheVariants.{Finished, Undecided, NoCommand, Refused, Unread, Unwritten, NoMemory}
-use Rattle.theory_cli.specs.Command.{IsCommand, Given, no_command, not_asked, no_bytes, gave, AreWords, IsGiven, IsAsked}
+use Rattle.theory_cli.specs.Command.{Given, no_words, no_command, not_asked, no_bytes, gave, AreWords, IsGiven, IsAsked}
 use Rattle.theory_cli.specs.Session.{AreReplies}
 use Rattle.theory_cli.specs.Taking.{TookReplies, CutInLast}
-use Rattle.theory_cli.specs.Ending.{IsCause, IsWritten, IsReported, no_command_line}
+use Rattle.theory_cli.specs.Ending.{IsCause, IsWritten, IsReported, no_command_line, no_memory_line}
 use Rattle.theory_cli.specs.Run.{Ends, OfModel, AreMade, IsOutput, IsAnswered, IsDecided, NoneFailed, IsComplete, IsRun}
 use Rattle.theory_cli.proofs.ExclusionLemmas.{never_both}
 
@@ -51,11 +52,11 @@ module _ (m : Meanings) (words : List (List ℕ)) (before now : Ends) (replies :
       (λ e. inl (cut_rose replies before.out now.out (subst (λ (s : Status). IsOutput s replies before.out now.out) (sym e ∙ is) output)))
       (λ c. inr c.1) ends
 
-  -- where each claim was answered the bytes spell a model
-  answered_model : (file bytes : List ℕ) (s : Status) → IsAnswered s → AreMade m (gave file bytes) s replies →
-      OfModel bytes (λ lines. AreReplies m lines replies)
-  answered_model file bytes s (inl e) made = (subst (λ (t : Status). AreMade m (gave file bytes) t replies) e made).0
-  answered_model file bytes s (inr e) made = (subst (λ (t : Status). AreMade m (gave file bytes) t replies) e made).0
+  -- where all replies were made the bytes spell a model
+  answered_model : (c : Command) (bytes : List ℕ) (s : Status) → IsAnswered s → AreMade m (gave c bytes) s replies →
+      OfModel bytes (λ lines. AreReplies m c lines replies)
+  answered_model c bytes s (inl e) made = (subst (λ (t : Status). AreMade m (gave c bytes) t replies) e made).0
+  answered_model c bytes s (inr e) made = (subst (λ (t : Status). AreMade m (gave c bytes) t replies) e made).0
 
   unwritten_is_none : IsAnswered Unwritten → ⊥
   unwritten_is_none (inl e) = absurd cc
@@ -63,56 +64,71 @@ module _ (m : Meanings) (words : List (List ℕ)) (before now : Ends) (replies :
 
   decided : (given : Given) (reached status : Status) → IsCause given before.files now.files reached → AreMade m given reached replies →
       EndsAs reached before.err now.err status → IsDecided given status
+  decided no_words reached status cause made ends = tt
   decided no_command reached status cause made ends = tt
-  decided (not_asked file) reached status cause made ends = tt
-  decided (no_bytes file) reached status cause made ends = tt
-  decided (gave file bytes) reached status cause made ends = (
+  decided (not_asked c) reached status cause made ends = tt
+  decided (no_bytes c) reached status cause made ends = tt
+  decided (gave k bytes) reached status cause made ends = (
     λ spells is. ⊎_elim {C = ⊥}
-        (λ e. let r = subst (IsCause (gave file bytes) before.files now.files) (sym e ∙ is) cause in
+        (λ e. let r = subst (IsCause (gave k bytes) before.files now.files) (sym e ∙ is) cause in
         never_both bytes spells.0 r.0 spells.1 r.1)
         (λ c. let bad : ◌≡◌ {A = Status} Refused Unwritten = sym is ∙ c.0 in absurd (cc)) ends,
     λ told refusal is. ⊎_elim {C = ⊥}
-        (λ e. let found = answered_model file bytes reached (subst IsAnswered e is) made in never_both bytes found.0 told found.1 refusal)
+        (λ e. let found = answered_model k bytes reached (subst IsAnswered e is) made in never_both bytes found.0 told found.1 refusal)
         (λ c. unwritten_is_none (subst IsAnswered c.0 is)) ends,
   )
 
   -- the ends that a command may reach where no count rose
-  reaches : (given : Given) (reached : Status) (file : List ℕ) → AreWords words given → IsCommand words file → NoneFailed before now →
+  reaches : (given : Given) (reached : Status) (d : Command) → AreWords words given → IsCommand words d → NoneFailed before now →
       IsCause given before.files now.files reached → IsOutput reached replies before.out now.out →
       IsAnswered reached ⊎ (reached ≡ Refused) ⊎ (reached ≡ NoMemory)
-  reaches no_command reached file are command none cause output = absurd (are file command)
-  reaches (not_asked f) NoMemory file are command none cause output = inr (inr refl)
-  reaches (not_asked f) Finished file are command none cause output = absurd cause
-  reaches (not_asked f) Undecided file are command none cause output = absurd cause
-  reaches (not_asked f) NoCommand file are command none cause output = absurd cause
-  reaches (not_asked f) Refused file are command none cause output = absurd cause
-  reaches (not_asked f) Unread file are command none cause output = absurd cause
-  reaches (not_asked f) Unwritten file are command none cause output = absurd cause
-  reaches (no_bytes f) NoMemory file are command none cause output = inr (inr refl)
-  reaches (no_bytes f) Finished file are command none cause output = absurd cause
-  reaches (no_bytes f) Undecided file are command none cause output = absurd cause
-  reaches (no_bytes f) NoCommand file are command none cause output = absurd cause
-  reaches (no_bytes f) Refused file are command none cause output = absurd cause
-  reaches (no_bytes f) Unread file are command none cause output = absurd (none.files cause)
-  reaches (no_bytes f) Unwritten file are command none cause output = absurd cause
-  reaches (gave f bytes) Finished file are command none cause output = inl (inl refl)
-  reaches (gave f bytes) Undecided file are command none cause output = inl (inr refl)
-  reaches (gave f bytes) Refused file are command none cause output = inr (inl refl)
-  reaches (gave f bytes) NoMemory file are command none cause output = inr (inr refl)
-  reaches (gave f bytes) NoCommand file are command none cause output = absurd cause
-  reaches (gave f bytes) Unread file are command none cause output = absurd cause
-  reaches (gave f bytes) Unwritten file are command none cause output = absurd (none.out (cut_rose replies before.out now.out output))
+  reaches no_command reached d are command none cause output = absurd (are d command)
+  reaches no_words NoMemory d are command none cause output = inr (inr refl)
+  reaches no_words Finished d are command none cause output = absurd cause
+  reaches no_words Undecided d are command none cause output = absurd cause
+  reaches no_words NoCommand d are command none cause output = absurd cause
+  reaches no_words Refused d are command none cause output = absurd cause
+  reaches no_words Unread d are command none cause output = absurd cause
+  reaches no_words Unwritten d are command none cause output = absurd cause
+  reaches (not_asked f) NoMemory d are command none cause output = inr (inr refl)
+  reaches (not_asked f) Finished d are command none cause output = absurd cause
+  reaches (not_asked f) Undecided d are command none cause output = absurd cause
+  reaches (not_asked f) NoCommand d are command none cause output = absurd cause
+  reaches (not_asked f) Refused d are command none cause output = absurd cause
+  reaches (not_asked f) Unread d are command none cause output = absurd cause
+  reaches (not_asked f) Unwritten d are command none cause output = absurd cause
+  reaches (no_bytes f) NoMemory d are command none cause output = inr (inr refl)
+  reaches (no_bytes f) Finished d are command none cause output = absurd cause
+  reaches (no_bytes f) Undecided d are command none cause output = absurd cause
+  reaches (no_bytes f) NoCommand d are command none cause output = absurd cause
+  reaches (no_bytes f) Refused d are command none cause output = absurd cause
+  reaches (no_bytes f) Unread d are command none cause output = absurd (none.files cause)
+  reaches (no_bytes f) Unwritten d are command none cause output = absurd cause
+  reaches (gave f bytes) Finished d are command none cause output = inl (inl refl)
+  reaches (gave f bytes) Undecided d are command none cause output = inl (inr refl)
+  reaches (gave f bytes) Refused d are command none cause output = inr (inl refl)
+  reaches (gave f bytes) NoMemory d are command none cause output = inr (inr refl)
+  reaches (gave f bytes) NoCommand d are command none cause output = absurd cause
+  reaches (gave f bytes) Unread d are command none cause output = absurd cause
+  reaches (gave f bytes) Unwritten d are command none cause output = absurd (none.out (cut_rose replies before.out now.out output))
 
-  -- words that are no command reach one end
-  reaches_one : (given : Given) (reached : Status) → AreWords words given → ((file : List ℕ) → ¬ IsCommand words file) →
-      IsCause given before.files now.files reached → reached ≡ NoCommand
-  reaches_one no_command NoCommand are other cause = refl
+  -- words that are no command reach one end, unless memory is wanting for them
+  reaches_one : (given : Given) (reached : Status) → AreWords words given → IsNoCommand words →
+      IsCause given before.files now.files reached → (reached ≡ NoCommand) ⊎ (reached ≡ NoMemory)
+  reaches_one no_command NoCommand are other cause = inl refl
   reaches_one no_command Finished are other cause = absurd cause
   reaches_one no_command Undecided are other cause = absurd cause
   reaches_one no_command Refused are other cause = absurd cause
   reaches_one no_command Unread are other cause = absurd cause
   reaches_one no_command Unwritten are other cause = absurd cause
   reaches_one no_command NoMemory are other cause = absurd cause
+  reaches_one no_words NoMemory are other cause = inr refl
+  reaches_one no_words Finished are other cause = absurd cause
+  reaches_one no_words Undecided are other cause = absurd cause
+  reaches_one no_words NoCommand are other cause = absurd cause
+  reaches_one no_words Refused are other cause = absurd cause
+  reaches_one no_words Unread are other cause = absurd cause
+  reaches_one no_words Unwritten are other cause = absurd cause
   reaches_one (not_asked f) reached are other cause = absurd (other f are)
   reaches_one (no_bytes f) reached are other cause = absurd (other f are)
   reaches_one (gave f bytes) reached are other cause = absurd (other f are)
@@ -120,12 +136,15 @@ module _ (m : Meanings) (words : List (List ℕ)) (before now : Ends) (replies :
   complete : (given : Given) (reached status : Status) → AreWords words given → IsCause given before.files now.files reached →
       IsOutput reached replies before.out now.out → EndsAs reached before.err now.err status → IsComplete words before now status
   complete given reached status are cause output ends = record {
-    command = λ file command none.
+    command = λ d command none.
         ⊎_elim
         (λ e. subst (λ (s : Status). IsAnswered s ⊎ (s ≡ Refused) ⊎ (s ≡ NoMemory)) (sym e)
-        (reaches given reached file are command none cause output))
+        (reaches given reached d are command none cause output))
         (λ c. absurd (none.err c.1)) ends;
-    no_command = λ other stands. ⊎_elim (λ e. e ∙ reaches_one given reached are other cause) (λ c. absurd (stands c.1)) ends;
+    no_command = λ other stands.
+        ⊎_elim
+        (λ e. subst (λ (s : Status). (s ≡ NoCommand) ⊎ (s ≡ NoMemory)) (sym e) (reaches_one given reached are other cause))
+        (λ c. absurd (stands c.1)) ends;
   }
 
   -- a run, from what is known of its parts
@@ -151,13 +170,15 @@ module _ (m : Meanings) (words : List (List ℕ)) (before now : Ends) (replies :
       )
 
   -- a run whose words are no command
-  pub no_command_run : (status : Status) → ((file : List ℕ) → ¬ IsCommand words file) → replies ≡ [] → now.files ≡ before.files → now.out ≡ before.out →
+  pub no_command_run : (status : Status) → IsNoCommand words → replies ≡ [] → now.files ≡ before.files → now.out ≡ before.out →
       IsWritten NoCommand no_command_line before.err now.err status → IsRun m words before now status replies
   no_command_run status other empty files out written =
       runs no_command NoCommand status other tt files tt empty (subst (λ (rs : List Reply). TookReplies rs before.out now.out) (sym empty) out)
       (no_command_line, refl, written)
 
--- a run of the same words
-pub run_of : (m : Meanings) (words named : List (List ℕ)) (before now : Ends) (status : Status) (replies : List Reply) → words ≡ named →
-    IsRun m named before now status replies → IsRun m words before now status replies
-run_of m words named before now status replies same run = subst (λ (w : List (List ℕ)). IsRun m w before now status replies) (sym same) run
+  -- a run for whose words memory was wanting
+  pub no_words_run : (status : Status) → replies ≡ [] → now.files ≡ before.files → now.out ≡ before.out →
+      IsWritten NoMemory no_memory_line before.err now.err status → IsRun m words before now status replies
+  no_words_run status empty files out written =
+      runs no_words NoMemory status tt tt files tt empty (subst (λ (rs : List Reply). TookReplies rs before.out now.out) (sym empty) out)
+      (no_memory_line, refl, written)

@@ -3,10 +3,11 @@ use Rattle.std.specs.Prelude.{◌≡◌, ◌⊎◌, ℕ, List, ◌++◌, codes}
 use Rattle.theory_meaning.specs.Faults.{Rose}
 use Rattle.theory_edge.specs.Files.{FilesTold}
 use Rattle.theory_edge.specs.Sinks.{SinkTold}
+use Rattle.theory_session.specs.Printed.{line_end}
+use Rattle.theory_words.specs.Commands.{Command, check, derive}
 use Rattle.theory_cli.specs.declared.status.Status.{Status}
 use Rattle.theory_cli.specs.declared.status.Status.TheVariants.{Finished, Undecided, NoCommand, Refused, Unread, Unwritten, NoMemory}
-use Rattle.theory_cli.specs.Command.{Given, no_command, not_asked, no_bytes, gave}
-use Rattle.theory_cli.specs.Printed.{line_end}
+use Rattle.theory_cli.specs.Command.{Given, no_words, no_command, not_asked, no_bytes, gave, file_of}
 use Rattle.theory_cli.specs.Refusal.{IsRefusal}
 use Rattle.theory_cli.specs.Taking.{IsTold, IsCutOff}
 
@@ -20,17 +21,23 @@ exit_number Unread = 5
 exit_number Unwritten = 6
 exit_number NoMemory = 9
 
+-- the command may leave a claim undecided: only a check does
+abbrev pub MayLeaveUndecided : Command → Type 0
+MayLeaveUndecided (check file kind) = Unit {0}
+MayLeaveUndecided (derive file) = ⊥
+
 -- the end that may come of what was given, before it is told on err, with the files before and after
 abbrev pub IsCause : Given → FilesTold → FilesTold → Status → Type 0
+IsCause no_words before now NoMemory = Unit {0}
 IsCause no_command before now NoCommand = Unit {0}
-IsCause (not_asked file) before now NoMemory = Unit {0}
-IsCause (no_bytes file) before now NoMemory = Unit {0}
-IsCause (no_bytes file) before now Unread = Rose before.faults now.faults
-IsCause (gave file bytes) before now Finished = Unit {0}
-IsCause (gave file bytes) before now Undecided = Unit {0}
-IsCause (gave file bytes) before now Refused = (told : List ℕ) × IsRefusal bytes told
-IsCause (gave file bytes) before now Unwritten = Unit {0}
-IsCause (gave file bytes) before now NoMemory = Unit {0}
+IsCause (not_asked c) before now NoMemory = Unit {0}
+IsCause (no_bytes c) before now NoMemory = Unit {0}
+IsCause (no_bytes c) before now Unread = Rose before.faults now.faults
+IsCause (gave c bytes) before now Finished = Unit {0}
+IsCause (gave c bytes) before now Undecided = MayLeaveUndecided c
+IsCause (gave c bytes) before now Refused = (told : List ℕ) × IsRefusal bytes told
+IsCause (gave c bytes) before now Unwritten = Unit {0}
+IsCause (gave c bytes) before now NoMemory = Unit {0}
 IsCause given before now reached = ⊥
 
 -- the line of want of memory
@@ -44,8 +51,8 @@ no_command_line = codes "theory: these words are no command" ++ line_end
 -- the line on err that goes with an end
 abbrev pub IsErrLine : Given → Status → List ℕ → Type 0
 IsErrLine given NoCommand line = line ≡ no_command_line
-IsErrLine (gave file bytes) Refused line = (told : List ℕ) × IsRefusal bytes told × (line ≡ file ++ told ++ line_end)
-IsErrLine (no_bytes file) Unread line = line ≡ codes "theory: cannot read " ++ file ++ line_end
+IsErrLine (gave c bytes) Refused line = (told : List ℕ) × IsRefusal bytes told × (line ≡ file_of c ++ told ++ line_end)
+IsErrLine (no_bytes c) Unread line = line ≡ codes "theory: cannot read " ++ file_of c ++ line_end
 IsErrLine given NoMemory line = line ≡ no_memory_line
 IsErrLine given reached line = ⊥
 

@@ -5,8 +5,11 @@ pub use Rattle.theory_grammar.specs.Texts
 pub use Rattle.theory_edge.specs.Files
 pub use Rattle.theory_edge.specs.Sinks
 pub use Rattle.theory_decision.specs.Engine
-pub mod Printed
-pub mod NotYet
+pub use Rattle.theory_session.specs.Check
+pub use Rattle.theory_session.specs.Derive
+pub use Rattle.theory_session.specs.Printed
+pub use Rattle.theory_words.specs.Commands
+pub mod Plain
 pub mod Refusal
 pub mod Session
 pub mod Taking

@@ -6,7 +6,7 @@ use Rattle.theory_decision.specs.Engine.{engine}
 use Rattle.theory_cli.specs.declared.entry.NoWords.{NoWords}
 use Rattle.theory_cli.specs.declared.entry.NoWords.TheVariants.{NotText, NoMemory as NoRoom}
 use Rattle.theory_points.specs.declared.limit.NoMemory.{NoMemory}
-use Rattle.theory_cli.specs.declared.reply.Reply.{Reply}
+use Rattle.theory_session.specs.Run.{Reply}
 use Rattle.theory_cli.specs.declared.status.Status.{Status}
 use Rattle.theory_cli.specs.declared.status.Status.TheVariants as end
 use Rattle.theory_cli.specs.Ending.{exit_number, no_command_line, no_memory_line, IsWritten}

@@ -1,5 +1,5 @@
 -- Why the bytes of a file aren't answered, and what is told of it behind the file's name. docs/PROTOCOL.md has it in words.
-use Rattle.std.specs.Prelude.{◌≡◌, ℕ, List, ◌++◌, None, Some, codes, decimal}
+use Rattle.std.specs.Prelude.{◌≡◌, ℕ, List, ◌++◌, Some, codes, decimal}
 use Rattle.theory_meaning.specs.Edit.{IsModel}
 use Rattle.theory_meaning.specs.ModelFault as meaning
 use Rattle.theory_meaning.specs.ModelFault.{ModelFault}
@@ -8,7 +8,6 @@ use Rattle.theory_grammar.specs.TextFault.{Fault}
 use Rattle.theory_grammar.specs.Texts.{SpellsLines, IsFirstFault}
 use Rattle.theory_model.specs.Message.{printed_kind as printed_model_kind}
 use Rattle.theory_text.specs.Message.{printed_kind as printed_text_kind}
-use Rattle.theory_cli.specs.NotYet.{first_not_yet}
 
 -- a fault of a text: its line, its column and its kind
 abbrev pub text_fault_text : Fault → List ℕ
@@ -18,19 +17,12 @@ text_fault_text f = codes ":" ++ decimal f.line ++ codes ":" ++ decimal f.column
 abbrev pub model_fault_text : ModelFault → List ℕ
 model_fault_text f = codes ":" ++ decimal f.at ++ codes ": " ++ printed_model_kind f.kind
 
--- a model that isn't decided yet, with a line
-abbrev pub not_yet_text : ℕ → List ℕ
-not_yet_text n = codes ":" ++ decimal n ++ codes ": NotYet"
-
--- why these bytes are refused, by what is told of it: the first fault of the text, where there is none
--- that of the model, and where there is none of these the first line that isn't answered yet
+-- why these bytes are refused, by what is told of it: the first fault of the text, and where there is none that of the model
 pub data IsRefusal (bytes : List ℕ) : List ℕ → Type 0 where
   text_fault : (f : Fault) → IsFirstFault bytes f → IsRefusal bytes (text_fault_text f)
   model_fault : (lines : List Numbered) (f : ModelFault) → SpellsLines bytes lines → meaning.model_fault lines ≡ Some f → IsRefusal bytes (model_fault_text f)
-  not_yet : (lines : List Numbered) (n : ℕ) → SpellsLines bytes lines → IsModel lines → first_not_yet lines ≡ Some n → IsRefusal bytes (not_yet_text n)
 
--- the bytes spell these lines, a model without a fault of which each line is answered
+-- the bytes spell these lines, a model without a fault
 pub record SpellsModel (bytes : List ℕ) (lines : List Numbered) : Type 0 where
   pub spelled : SpellsLines bytes lines
   pub checked : IsModel lines
-  pub ready : first_not_yet lines ≡ None

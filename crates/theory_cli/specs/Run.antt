@@ -5,13 +5,14 @@ use Rattle.theory_meaning.specs.Faults.{Rose}
 use Rattle.theory_meaning.specs.Text.{Numbered}
 use Rattle.theory_edge.specs.Files.{FilesTold}
 use Rattle.theory_edge.specs.Sinks.{SinkTold}
-use Rattle.theory_cli.specs.declared.reply.Reply.{Reply}
+use Rattle.theory_session.specs.Run.{Reply, some_undecided}
+use Rattle.theory_words.specs.Commands.{Command, IsCommand, IsNoCommand}
 use Rattle.theory_cli.specs.declared.status.Status.{Status}
 use Rattle.theory_cli.specs.declared.status.Status.TheVariants.{Finished, Undecided, NoCommand, Refused, Unwritten, NoMemory}
-use Rattle.theory_cli.specs.Command.{IsCommand, Given, gave, AreWords, IsGiven, IsAsked}
+use Rattle.theory_cli.specs.Command.{Given, gave, AreWords, IsGiven, IsAsked}
 use Rattle.theory_cli.specs.Ending.{IsCause, IsReported}
 use Rattle.theory_cli.specs.Refusal.{IsRefusal, SpellsModel}
-use Rattle.theory_cli.specs.Session.{AreReplies, AreFirstReplies, some_undecided}
+use Rattle.theory_cli.specs.Session.{AreReplies, AreFirstReplies}
 use Rattle.theory_cli.specs.Taking.{TookReplies, CutInLast}
 
 -- what all ends of a run tell
@@ -24,12 +25,12 @@ pub record Ends : Type 0 where
 abbrev pub OfModel : List ℕ → (List Numbered → Type 0) → Type 0
 OfModel bytes IsMet = (lines : List Numbered) × SpellsModel bytes lines × IsMet lines
 
--- all replies to the model that was given at the end, a beginning of them where a run stopped on the way, and else none
+-- all replies of the command to the model that was given at the end, a beginning of them where a run stopped on the way, and else none
 abbrev pub AreMade : Meanings → Given → Status → List Reply → Type 0
-AreMade m (gave file bytes) Finished replies = OfModel bytes (λ lines. AreReplies m lines replies) × (some_undecided replies ≡ false)
-AreMade m (gave file bytes) Undecided replies = OfModel bytes (λ lines. AreReplies m lines replies) × (some_undecided replies ≡ true)
-AreMade m (gave file bytes) Unwritten replies = OfModel bytes (λ lines. AreFirstReplies m lines replies)
-AreMade m (gave file bytes) NoMemory replies = (replies ≡ []) ⊎ OfModel bytes (λ lines. AreFirstReplies m lines replies)
+AreMade m (gave c bytes) Finished replies = OfModel bytes (λ lines. AreReplies m c lines replies) × (some_undecided replies ≡ false)
+AreMade m (gave c bytes) Undecided replies = OfModel bytes (λ lines. AreReplies m c lines replies) × (some_undecided replies ≡ true)
+AreMade m (gave c bytes) Unwritten replies = OfModel bytes (λ lines. AreFirstReplies m c lines replies)
+AreMade m (gave c bytes) NoMemory replies = (replies ≡ []) ⊎ OfModel bytes (λ lines. AreFirstReplies m c lines replies)
 AreMade m given reached replies = replies ≡ []
 
 -- out took the prints of the replies, and where a write to it failed the cut lies in the last one
@@ -37,13 +38,13 @@ abbrev pub IsOutput : Status → List Reply → SinkTold → SinkTold → Type 0
 IsOutput Unwritten replies before now = CutInLast replies before now
 IsOutput reached replies before now = TookReplies replies before now
 
--- the run ended with an answer to each claim
+-- the run ended with all replies of its command
 abbrev pub IsAnswered : Status → Type 0
 IsAnswered status = (status ≡ Finished) ⊎ (status ≡ Undecided)
 
--- bytes that spell a model that is answered aren't refused, and bytes that are refused aren't answered
+-- bytes that spell a model aren't refused, and bytes that are refused aren't answered
 abbrev pub IsDecided : Given → Status → Type 0
-IsDecided (gave file bytes) status =
+IsDecided (gave c bytes) status =
     (OfModel bytes (λ lines. Unit {0}) → status ≢ Refused) × ((told : List ℕ) → IsRefusal bytes told → ¬ IsAnswered status)
 IsDecided given status = Unit {0}
 
@@ -53,12 +54,12 @@ pub record NoneFailed (before now : Ends) : Type 0 where
   pub out : ¬ Rose before.out.faults now.out.faults
   pub err : ¬ Rose before.err.faults now.err.faults
 
--- where no count of faults rose a command ends with its answers, with a refusal or with want of memory; and where
--- that of err didn't, words that are no command end so
+-- where no count of faults rose a command ends with its replies, with a refusal or with want of memory; and where
+-- that of err didn't, words that are no command end so, or with want of memory
 pub record IsComplete (words : List (List ℕ)) (before now : Ends) (status : Status) : Type 0 where
-  pub command : (file : List ℕ) → IsCommand words file → NoneFailed before now →
+  pub command : (c : Command) → IsCommand words c → NoneFailed before now →
       IsAnswered status ⊎ (status ≡ Refused) ⊎ (status ≡ NoMemory)
-  pub no_command : ((file : List ℕ) → ¬ IsCommand words file) → ¬ Rose before.err.faults now.err.faults → status ≡ NoCommand
+  pub no_command : IsNoCommand words → ¬ Rose before.err.faults now.err.faults → (status ≡ NoCommand) ⊎ (status ≡ NoMemory)
 
 -- the facts of a run that was given this, and that reached this end before the end was told on err
 pub record RunsBy (m : Meanings) (given : Given) (reached : Status) (words : List (List ℕ)) (before now : Ends) (status : Status) (replies : List Reply) : Type 0 where

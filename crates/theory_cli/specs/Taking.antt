@@ -2,8 +2,8 @@
 use Rattle.std.specs.Prelude.{◌≡◌, ℕ, ◌≤◌, List, [], ◌∷◌, ◌++◌}
 use Rattle.theory_meaning.specs.Faults.{Rose, Took, TookPart}
 use Rattle.theory_edge.specs.Sinks.{SinkTold}
-use Rattle.theory_cli.specs.declared.reply.Reply.{Reply}
-use Rattle.theory_cli.specs.Session.{reply_text, replies_text}
+use Rattle.theory_session.specs.Run.{Reply}
+use Rattle.theory_session.specs.Printed.{reply_text, replies_text}
 
 -- the sink took the whole text, and its count of faults didn't fall
 pub record IsTold (text : List ℕ) (before now : SinkTold) : Type 0 where

@@ -1,6 +1,6 @@
 ghost use Rattle.std.specs.Prelude.{◌≡◌, ◌++◌, OnOk, map};
 ghost use Rattle.theory_verdict.specs.Plain.{stuck_of, cause_of};
-ghost use Rattle.theory_cli.specs.Printed.{stuck_text, further_stuck, stuck_texts, cause_text};
+ghost use Rattle.theory_session.specs.Printed.{stuck_text, further_stuck, stuck_texts, cause_text};
 
 use std::alloc::Global;
 use theory_points::{Bytes, NoMemory};

@@ -1,13 +1,15 @@
 ghost use Rattle.std.specs.Prelude.{map, string_bytes};
 ghost use Rattle.theory_decision.specs.Engine.{engine};
+ghost use Rattle.theory_cli.specs.Plain.{replies_of};
 ghost use Rattle.theory_cli.specs.Run.{IsRun};
 
 use crate::reply::{Outcome, Replies};
-use crate::report::report_no_command;
-use crate::running::{file_of, run};
+use crate::report::{report_no_command, report_no_memory};
+use crate::running::run;
 use std::alloc::Global;
 use theory_edge::{Files, Sink};
 use theory_search::Policies;
+use theory_words::{WordsFault, read_words};
 
 /// Runs the command that the words name, over files that it reads and two sinks that it writes to;
 /// the policies are those by which symbols are eliminated.
@@ -23,12 +25,16 @@ pub fn theory<F: Files, O: Sink, E: Sink>(
     ensures run { IsRun engine (map string_bytes words.now)
         record { files = F.told files.old; out = O.told out.old; err = E.told err.old }
         record { files = F.told files.new; out = O.told out.new; err = E.told err.new }
-        result.status result.replies }
+        result.status (replies_of result.replies) }
 {
-    match file_of(words) {
-        Some(file) => run(alloc, file, policies, files, out, err),
-        None => Outcome {
+    match read_words(alloc, words) {
+        Ok(command) => run(alloc, command, policies, files, out, err),
+        Err(WordsFault::NoCommand) => Outcome {
             status: report_no_command(err),
+            replies: Replies::new(alloc),
+        },
+        Err(WordsFault::NoMemory) => Outcome {
+            status: report_no_memory(err),
             replies: Replies::new(alloc),
         },
     }

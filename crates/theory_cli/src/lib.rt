@@ -1,18 +1,17 @@
 //! The top call of the program, over ends that are handed in.
 //!
-//! `theory` reads the file that the words name, answers each claim of its text, and writes the
-//! replies, or says why the text or its model is refused. Its one clause says that something was
-//! given to the run, and of it which replies those are, what is read and written, and what is the
-//! cause of each status; its facts are listed in `specs/Run.antt`. `program` is the same with an
-//! exit status. Read `theory` first.
+//! `theory` reads the words as a command and the file that it names, answers each claim of its text
+//! or differentiates its equations, and writes the replies, or says why the text or its model is
+//! refused. Its one clause says that something was given to the run, and of it which replies those
+//! are, what is read and written, and what is the cause of each status; its facts are listed in
+//! `specs/Run.antt`. `program` is the same with an exit status. Read `theory` first.
 #![tactic(auto)]
 
 mod answer;
-mod asking;
 mod causes;
 mod cli;
+mod derived;
 mod entry;
-mod not_yet;
 mod parsing;
 mod printing;
 mod refusal;

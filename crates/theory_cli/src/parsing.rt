@@ -4,16 +4,14 @@ ghost use Rattle.theory_meaning.specs.ModelFault.{model_fault};
 ghost use Rattle.theory_meaning.specs.Text as plain;
 ghost use Rattle.theory_grammar.specs.declared.text_kind.TextKind.TheVariants as text_kind;
 ghost use Rattle.theory_grammar.specs.Texts.{SpellsLines, IsFirstFault};
-ghost use Rattle.theory_syntax.specs.Plain.{lines_of};
 ghost use Rattle.theory_model.specs.Checked as checked;
 ghost use Rattle.theory_text.specs.Answers as answers;
 ghost use Rattle.theory_cli.specs.Running.{StopsAt, IsParsed};
 
-use crate::not_yet::first_not_yet;
 use crate::refusal::Refusal;
 use crate::running::Stop;
 use std::alloc::Global;
-use theory_model::{Model, ModelFault, ModelKind, check, text_of};
+use theory_model::{Model, ModelFault, ModelKind, check};
 use theory_text::{TextError, TextKind, read_text};
 
 /// The model that the bytes spell; faults of the text come before those of the model.
@@ -25,7 +23,7 @@ pub fn parse(alloc: Global, bytes: &[u8]) -> Result<Model, Stop>
         Err(error) => return Err(text_stop(error)),
     };
     match check(alloc, lines) {
-        Ok(model) => ready(model),
+        Ok(model) => Ok(model),
         Err(fault) => Err(model_stop(fault)),
     }
 }
@@ -49,15 +47,5 @@ fn model_stop(fault: ModelFault) -> Stop
     match fault.kind {
         ModelKind::Memory => Stop::NoMemory,
         _ => Stop::Refused(Refusal::Model(fault)),
-    }
-}
-
-// The model, where each of its lines is answered.
-fn ready(model: Model) -> Result<Model, Stop>
-    ensures { (bytes : List ℕ) → SpellsLines bytes (lines_of model) → IsParsed bytes result }
-{
-    match first_not_yet(text_of(&model).as_slice()) {
-        Some(line) => Err(Stop::Refused(Refusal::NotYet(line))),
-        None => Ok(model),
     }
 }

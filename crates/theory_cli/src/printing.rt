@@ -1,11 +1,12 @@
-ghost use Rattle.std.specs.Prelude.{◌≡◌, ◌++◌, IfOk, OnOk, codes, decimal};
+ghost use Rattle.std.specs.Prelude.{◌≡◌, ◌++◌, IfOk, OnOk, option_map, codes, decimal};
 ghost use Rattle.std.specs.Fmt.{signed_decimal};
 ghost use Rattle.theory_verdict.specs.Plain.{cause_of, half_of};
-ghost use Rattle.theory_cli.specs.Printed.{entry_text, further_text, point_text, cause_text, half_text, subject_text, question_text, half_line, halves_text, region_text, region_line, created_text, line_end};
+ghost use Rattle.theory_session.specs.Printed.{entry_text, further_text, point_text, cause_text, half_text, subject_text, question_text, half_line, halves_text, region_text, region_line, created_text, answer_text, reply_text, line_end};
 ghost use Rattle.theory_meaning.specs.Printed.{fraction_text, verdict_text};
-ghost use Rattle.theory_cli.specs.Session.{reply_text};
+ghost use Rattle.theory_cli.specs.Plain.{region_of, answer_of, reply_of};
 
 use crate::causes::add_cause;
+use crate::derived::derived_lines;
 use crate::reply::{Created, Reply};
 use std::alloc::Global;
 use theory_points::{Bytes, Frac, Name, Names, NoMemory, Point};
@@ -14,11 +15,12 @@ use theory_verdict::{Answer, Cause, Half, Region, Verdict};
 
 /// The printed form of a reply, each line ended by a line feed.
 pub fn print(alloc: Global, reply: &Reply) -> Result<Bytes, NoMemory>
-    ensures { IfOk result (λ text. text ≡ reply_text reply.now) }
+    ensures { IfOk result (λ text. text ≡ reply_text (reply_of reply.now)) }
 {
     match reply {
         Reply::Created(created) => created_line(alloc, created),
         Reply::Answered(answer) => answer_lines(alloc, answer),
+        Reply::Derived(equations) => derived_lines(alloc, equations.as_slice()),
     }
 }
 
@@ -35,10 +37,7 @@ fn created_line(alloc: Global, created: &Created) -> Result<Bytes, NoMemory>
 }
 
 fn answer_lines(alloc: Global, answer: &Answer) -> Result<Bytes, NoMemory>
-    ensures { IfOk result (λ text. text ≡
-        question_text answer.now.model answer.now.version answer.now.claim answer.now.verdict
-        ++ halves_text answer.now.symbols (half_of answer.now.example)
-        (half_of answer.now.counter) ++ region_line answer.now.region) }
+    ensures { IfOk result (λ text. text ≡ answer_text (answer_of answer.now)) }
 {
     let mut text = question_line(alloc, answer)?;
     add_halves(alloc, &mut text, answer)?;
@@ -106,7 +105,7 @@ fn add_half_line(
 }
 
 fn add_region_line(alloc: Global, text: &mut Bytes, region: &Option<Region>) -> Result<(), NoMemory>
-    ensures { OnOk result (text.new ≡ text.old ++ region_line region.now) }
+    ensures { OnOk result (text.new ≡ text.old ++ region_line (option_map region_of region.now)) }
 {
     match region {
         None => Ok(()),
@@ -116,7 +115,7 @@ fn add_region_line(alloc: Global, text: &mut Bytes, region: &Option<Region>) -> 
 
 fn add_condition_line(alloc: Global, text: &mut Bytes, region: &Region) -> Result<(), NoMemory>
     ensures { OnOk result
-        (text.new ≡ text.old ++ codes "  holds where: " ++ region_text region.now ++ line_end) }
+        (text.new ≡ text.old ++ codes "  holds where: " ++ region_text (region_of region.now) ++ line_end) }
 {
     text.extend(b"  holds where: ")?;
     add_region(alloc, text, region)?;
@@ -124,7 +123,7 @@ fn add_condition_line(alloc: Global, text: &mut Bytes, region: &Region) -> Resul
 }
 
 fn add_region(alloc: Global, text: &mut Bytes, region: &Region) -> Result<(), NoMemory>
-    ensures { OnOk result (text.new ≡ text.old ++ region_text region.now) }
+    ensures { OnOk result (text.new ≡ text.old ++ region_text (region_of region.now)) }
 {
     match region {
         Region::Known(condition) => {

@@ -16,8 +16,6 @@ pub enum Refusal {
     Text(TextError),
     /// The first fault of its lines as a model.
     Model(ModelFault),
-    /// A model that isn't decided yet, and the line at which this shows.
-    NotYet(u32),
 }
 
 /// Adds what is told of a refusal behind the name of the file.
@@ -30,7 +28,6 @@ pub fn add_refusal(alloc: Global, text: &mut Bytes, refusal: Refusal) -> Result<
             let kind = theory_model::kind_name(fault.kind);
             add_kind(alloc, text, fault.at, kind.as_bytes())
         }
-        Refusal::NotYet(line) => add_kind(alloc, text, line, b"NotYet"),
     }
 }
 

@@ -4,6 +4,7 @@ use crate::status::Status;
 use std::alloc::Global;
 use std::marker::Model;
 use theory_points::{Name, NoMemory};
+use theory_statics::Differentiated;
 use theory_verdict::Answer;
 
 /// A model that was created.
@@ -19,6 +20,8 @@ pub struct Created {
 pub enum Reply {
     Created(Created),
     Answered(Answer),
+    /// The equations of a model, differentiated along each parameter.
+    Derived(Vec<Differentiated>),
 }
 
 /// The replies of a run, in the order in which they were made.
@@ -31,11 +34,12 @@ impl Model for Replies {
     ghost use Rattle.std.specs.Prelude.{List};
     ghost use Rattle.theory_cli.specs.declared.reply.Reply.{Reply};
     ghost use Rattle.theory_syntax.specs.contracts.claim.Claim as claim_row;
+    ghost use Rattle.theory_syntax.specs.contracts.expr.Expr as expr_row;
     ghost use Rattle.std.specs.Coded.{codes};
 
     ghost Value = { List Reply };
 
-    ghost coded = { Prim.hlevel (codes, claim_row.the_row.coded) };
+    ghost coded = { Prim.hlevel (codes, claim_row.the_row.coded, expr_row.the_row.coded) };
 
     ghost view = { λ r. r.items.items };
 }

@@ -1,5 +1,5 @@
-ghost use Rattle.std.specs.Prelude.{◌≡◌, ◌++◌, IfOk, codes, string_bytes};
-ghost use Rattle.theory_cli.specs.Printed.{line_end};
+ghost use Rattle.std.specs.Prelude.{◌≡◌, ◌++◌, IfOk, codes};
+ghost use Rattle.theory_session.specs.Printed.{line_end};
 ghost use Rattle.theory_cli.specs.Ending.{IsWritten, no_command_line, no_memory_line};
 ghost use Rattle.theory_cli.specs.Running.{Reports, refusal_text};
 
@@ -11,8 +11,8 @@ use theory_edge::Sink;
 use theory_points::{Bytes, NoMemory};
 
 /// Writes the line of a stop to err, and says how the run ends.
-pub fn report<E: Sink>(alloc: Global, file: &String, stop: Stop, err: &mut E) -> Status
-    ensures { Reports (string_bytes file.now) stop (E.told err.old) (E.told err.new) result }
+pub fn report<E: Sink>(alloc: Global, file: &str, stop: Stop, err: &mut E) -> Status
+    ensures { Reports file.now stop (E.told err.old) (E.told err.new) result }
 {
     match stop {
         Stop::Refused(refusal) => match refused(alloc, file, refusal) {
@@ -56,9 +56,9 @@ fn write_line<E: Sink>(line: &[u8], meant: Status, err: &mut E) -> Status
     }
 }
 
-fn refused(alloc: Global, file: &String, refusal: Refusal) -> Result<Bytes, NoMemory>
+fn refused(alloc: Global, file: &str, refusal: Refusal) -> Result<Bytes, NoMemory>
     ensures { IfOk result (λ text. text ≡
-        string_bytes file.now ++ refusal_text refusal ++ line_end) }
+        file.now ++ refusal_text refusal ++ line_end) }
 {
     let mut text = Bytes::from_slice(alloc, file.as_bytes())?;
     add_refusal(alloc, &mut text, refusal)?;
@@ -66,9 +66,9 @@ fn refused(alloc: Global, file: &String, refusal: Refusal) -> Result<Bytes, NoMe
     Ok(text)
 }
 
-fn unread(alloc: Global, file: &String) -> Result<Bytes, NoMemory>
+fn unread(alloc: Global, file: &str) -> Result<Bytes, NoMemory>
     ensures { IfOk result (λ text. text ≡
-        codes "theory: cannot read " ++ string_bytes file.now ++ line_end) }
+        codes "theory: cannot read " ++ file.now ++ line_end) }
 {
     let mut text = Bytes::from_slice(alloc, b"theory: cannot read ")?;
     text.extend(file.as_bytes())?;

@@ -1,8 +1,11 @@
-ghost use Rattle.std.specs.Prelude.{◌≡◌, List, ℕ, [], map, MatchOption, string_bytes};
+ghost use Rattle.std.specs.Prelude.{◌≡◌, List, ℕ, []};
 ghost use Rattle.theory_decision.specs.Engine.{engine};
-ghost use Rattle.theory_cli.specs.Command.{IsCommand, check_words};
+ghost use Rattle.theory_words.specs.Commands.{IsCommand};
+ghost use Rattle.theory_words.specs.Reading.{command_of};
+ghost use Rattle.theory_cli.specs.Command as given;
+ghost use Rattle.theory_cli.specs.Plain.{replies_of};
 ghost use Rattle.theory_cli.specs.Run.{IsRun};
-ghost use Rattle.theory_cli.specs.Running.{ReadsFile, IsChecked};
+ghost use Rattle.theory_cli.specs.Running.{ReadsFile, IsCarriedOut};
 
 use crate::parsing::parse;
 use crate::refusal::Refusal;
@@ -14,11 +17,12 @@ use std::alloc::Global;
 use theory_edge::{EndFault, Files, Sink};
 use theory_model::Model;
 use theory_search::Policies;
+use theory_words::Command;
 
-/// Why a check of a file stops before its end.
+/// Why a run of a command stops before its end.
 #[derive(Clone, Copy, Debug, PartialEq, Eq)]
 pub enum Stop {
-    /// The text or its model is refused, or not decided yet.
+    /// The text or its model is refused.
     Refused(Refusal),
     /// The file can't be read.
     Unread,
@@ -31,72 +35,61 @@ pub enum Stop {
 /// The greatest number of bytes of a text; a read gives one more.
 const TEXT_LIMIT: usize = 65_536;
 
-/// The file of the command, where the words are the command.
-pub fn file_of(words: &[String]) -> Option<&String>
-    ensures { MatchOption result ((file : List ℕ) → ¬ IsCommand (map string_bytes words.now) file)
-        (λ file. IsCommand (map string_bytes words.now) (string_bytes file.now)) }
-{
-    if words.len() == 2 && words[0].as_str() == "check" {
-        Some(&words[1])
-    } else {
-        None
-    }
-}
-
-/// Checks a file and reports how it stopped, if it did.
+/// Carries a command out and reports how it stopped, if it did.
 pub fn run<F: Files, O: Sink, E: Sink>(
     alloc: Global,
-    file: &String,
+    command: Command<'_>,
     policies: &Policies,
     files: &mut F,
     out: &mut O,
     err: &mut E,
 ) -> Outcome
-    ensures { IsRun engine (check_words (string_bytes file.now))
+    ensures { (words : List (List ℕ)) → IsCommand words (command_of command.entry) →
+        IsRun engine words
         record { files = F.told files.old; out = O.told out.old; err = E.told err.old }
         record { files = F.told files.new; out = O.told out.new; err = E.told err.new }
-        result.status result.replies }
+        result.status (replies_of result.replies) }
 {
     let mut replies = Replies::new(alloc);
-    match check(alloc, file, policies, files, out, &mut replies) {
+    match carry_out(alloc, command, policies, files, out, &mut replies) {
         Ok(()) => Outcome {
             status: ended_with(&replies),
             replies,
         },
         Err(stop) => Outcome {
-            status: report(alloc, file, stop, err),
+            status: report(alloc, file_of(command), stop, err),
             replies,
         },
     }
 }
 
-fn check<F: Files, O: Sink>(
+fn carry_out<F: Files, O: Sink>(
     alloc: Global,
-    file: &String,
+    command: Command<'_>,
     policies: &Policies,
     files: &mut F,
     out: &mut O,
     replies: &mut Replies,
 ) -> Result<(), Stop>
     requires { replies.old ≡ [] }
-    ensures { IsChecked engine (string_bytes file.now) (F.told files.old) (F.told files.new)
-        replies.new (O.told out.old) (O.told out.new) result }
+    ensures { IsCarriedOut engine (command_of command.entry) (F.told files.old) (F.told files.new)
+        (replies_of replies.new) (O.told out.old) (O.told out.new) result }
 {
-    let model = match read_file(alloc, file, files) {
+    let model = match read_file(alloc, command, files) {
         Ok(model) => model,
         Err(stop) => return Err(stop),
     };
-    match reply_to(alloc, &model, policies, out, replies) {
+    match reply_to(alloc, command, &model, policies, out, replies) {
         Ok(()) => Ok(()),
         Err(Halt::Unwritten) => Err(Stop::Unwritten),
         Err(Halt::NoMemory) => Err(Stop::NoMemory),
     }
 }
 
-fn read_file<F: Files>(alloc: Global, file: &String, files: &mut F) -> Result<Model, Stop>
-    ensures { ReadsFile (string_bytes file.now) (F.told files.old) (F.told files.new) result }
+fn read_file<F: Files>(alloc: Global, command: Command<'_>, files: &mut F) -> Result<Model, Stop>
+    ensures { ReadsFile (command_of command.entry) (F.told files.old) (F.told files.new) result }
 {
-    let name = match file.clone() {
+    let name = match String::from_str(alloc, file_of(command)) {
         Ok(name) => name,
         Err(_) => return Err(Stop::NoMemory),
     };
@@ -104,5 +97,15 @@ fn read_file<F: Files>(alloc: Global, file: &String, files: &mut F) -> Result<Mo
         Ok(bytes) => parse(alloc, bytes.as_slice()),
         Err(EndFault::Failed) => Err(Stop::Unread),
         Err(EndFault::NoMemory) => Err(Stop::NoMemory),
+    }
+}
+
+/// The file that a command names.
+fn file_of<'a>(command: Command<'a>) -> &'a str
+    ensures { result.now ≡ given.file_of (command_of command.entry) }
+{
+    match command {
+        Command::Check { file, .. } => file,
+        Command::Derive { file } => file,
     }
 }

@@ -1,23 +1,29 @@
-ghost use Rattle.std.specs.Prelude.{◌≡◌, [], ◌∷◌, ◌++◌, None, Contains};
-ghost use Rattle.theory_meaning.specs.Edit.{lines_alone};
+ghost use Rattle.std.specs.Prelude.{◌≡◌, [], is_some, true};
 ghost use Rattle.theory_decision.specs.Engine.{engine};
-ghost use Rattle.theory_syntax.specs.Plain.{claim_of, lines_of};
-ghost use Rattle.theory_cli.specs.NotYet.{first_not_yet};
-ghost use Rattle.theory_cli.specs.Session.{IsCreation, asked_in, reply_text};
-ghost use Rattle.theory_cli.specs.Session as session;
-ghost use Rattle.theory_cli.specs.Telling.{Tells, TellsOne, IsAnswering, Answers};
+ghost use Rattle.theory_derivative.specs.Sentence.{claim_in};
+ghost use Rattle.theory_session.specs.Check as session;
+ghost use Rattle.theory_session.specs.Check.{creation, question_about};
+ghost use Rattle.theory_session.specs.Create.{name_in};
+ghost use Rattle.theory_session.specs.Derive.{AreDerived, AreFirstDerived, derivation};
+ghost use Rattle.theory_syntax.specs.Plain.{lines_of};
+ghost use Rattle.theory_words.specs.Reading.{command_of};
+ghost use Rattle.theory_cli.specs.Plain.{reply_of, replies_of};
+ghost use Rattle.theory_cli.specs.Telling.{Tells, TellsOne, TellsAll, Answers};
 
 use crate::answer::{FIRST_VERSION, answer, model_name};
 use crate::printing::print;
 use crate::reply::{Created, Replies, Reply};
 use std::alloc::Global;
 use theory_edge::Sink;
+use theory_meaning::Kind;
 use theory_model::{Model, text_of};
 use theory_points::{Name, NoMemory};
 use theory_search::Policies;
-use theory_syntax::{Claim, Line};
+use theory_statics::differentiated;
+use theory_syntax::Line;
+use theory_words::Command;
 
-/// Why the replies of a check end early.
+/// Why the replies of a command end early.
 #[derive(Clone, Copy, Debug, PartialEq, Eq)]
 pub enum Halt {
     /// A write to out failed, after the reply was made.
@@ -37,26 +43,46 @@ impl From<NoMemory> for Halt {
     }
 }
 
-/// Makes, keeps and writes the replies to a model, its creation first and then each answer.
+/// Makes, keeps and writes the replies of a command to a model.
 pub fn reply_to<O: Sink>(
     alloc: Global,
+    command: Command<'_>,
     model: &Model,
     policies: &Policies,
     out: &mut O,
     replies: &mut Replies,
 ) -> Result<(), Halt>
-    requires none { replies.old ≡ [] }
-    requires ready { first_not_yet (lines_of model.now) ≡ None }
-    ensures { Answers engine (lines_of model.now) replies.new (O.told out.old)
-        (O.told out.new) result }
+    requires { replies.old ≡ [] }
+    ensures { Answers engine (command_of command.entry) (lines_of model.now) (replies_of replies.new)
+        (O.told out.old) (O.told out.new) result }
+{
+    match command {
+        Command::Check { order, .. } => reply_to_check(alloc, model, order, policies, out, replies),
+        Command::Derive { .. } => reply_to_derive(alloc, model, out, replies),
+    }
+}
+
+// The creation first, and then each answer.
+fn reply_to_check<O: Sink>(
+    alloc: Global,
+    model: &Model,
+    kind: Kind,
+    policies: &Policies,
+    out: &mut O,
+    replies: &mut Replies,
+) -> Result<(), Halt>
+    requires { replies.old ≡ [] }
+    ensures { TellsAll (session.AreReplies engine (lines_of model.now) kind)
+        (session.AreFirstReplies engine (lines_of model.now) kind) (replies_of replies.new)
+        (O.told out.old) (O.told out.new) result }
 {
     if let Err(halt) = tell_creation(alloc, model, out, replies) {
         return Err(halt);
     }
     for numbered in text_of(model) {
         match &numbered.line {
-            Line::Claim(label, _, claim) => {
-                if let Err(halt) = tell_answer(alloc, model, label, claim, policies, out, replies) {
+            Line::Claim(label, _, _) => {
+                if let Err(halt) = tell_answer(alloc, model, label, kind, policies, out, replies) {
                     return Err(halt);
                 }
             }
@@ -66,14 +92,41 @@ pub fn reply_to<O: Sink>(
     Ok(())
 }
 
+// One reply, with the differentiated equations.
+fn reply_to_derive<O: Sink>(
+    alloc: Global,
+    model: &Model,
+    out: &mut O,
+    replies: &mut Replies,
+) -> Result<(), Halt>
+    requires { replies.old ≡ [] }
+    ensures { TellsAll (AreDerived (lines_of model.now)) (AreFirstDerived (lines_of model.now))
+        (replies_of replies.new) (O.told out.old) (O.told out.new) result }
+{
+    tell_derivation(alloc, model, out, replies)
+}
+
+fn tell_derivation<O: Sink>(
+    alloc: Global,
+    model: &Model,
+    out: &mut O,
+    replies: &mut Replies,
+) -> Result<(), Halt>
+    ensures { TellsOne (λ r. r ≡ derivation (lines_of model.now)) (replies_of replies.old)
+        (replies_of replies.new) (O.told out.old) (O.told out.new) result }
+{
+    let equations = differentiated(alloc, model)?;
+    tell(alloc, Reply::Derived(equations), out, replies)
+}
+
 fn tell_creation<O: Sink>(
     alloc: Global,
     model: &Model,
     out: &mut O,
     replies: &mut Replies,
 ) -> Result<(), Halt>
-    ensures { TellsOne (IsCreation (session.model_name (lines_alone (lines_of model.now))))
-        replies.old replies.new (O.told out.old) (O.told out.new) result }
+    ensures { TellsOne (λ r. r ≡ creation (lines_of model.now)) (replies_of replies.old)
+        (replies_of replies.new) (O.told out.old) (O.told out.new) result }
 {
     let created = Created {
         model: model_name(alloc, text_of(model).as_slice())?,
@@ -86,19 +139,17 @@ fn tell_answer<O: Sink>(
     alloc: Global,
     model: &Model,
     label: &Name,
-    claim: &Claim,
+    kind: Kind,
     policies: &Policies,
     out: &mut O,
     replies: &mut Replies,
 ) -> Result<(), Halt>
-    requires ready { first_not_yet (lines_of model.now) ≡ None }
-    requires own { Contains (asked_in (lines_alone (lines_of model.now)))
-        (label.now, None, claim_of claim.now) }
-    ensures { TellsOne (IsAnswering engine (lines_of model.now)
-        (label.now, None, claim_of claim.now)) replies.old replies.new (O.told out.old)
-        (O.told out.new) result }
+    requires { is_some (claim_in (lines_of model.now) label.now) ≡ true }
+    ensures { TellsOne (session.Answers engine (lines_of model.now)
+        (question_about (name_in (lines_of model.now)) kind label.now)) (replies_of replies.old)
+        (replies_of replies.new) (O.told out.old) (O.told out.new) result }
 {
-    let answered = answer(alloc, model, label, claim, policies)?;
+    let answered = answer(alloc, model, label, policies, kind)?;
     tell(alloc, Reply::Answered(answered), out, replies)
 }
 
@@ -109,7 +160,8 @@ fn tell<O: Sink>(
     out: &mut O,
     replies: &mut Replies,
 ) -> Result<(), Halt>
-    ensures { Tells reply replies.old replies.new (O.told out.old) (O.told out.new) result }
+    ensures { Tells (reply_of reply) (replies_of replies.old) (replies_of replies.new)
+        (O.told out.old) (O.told out.new) result }
 {
     let text = print(alloc, &reply)?;
     replies.push(reply)?;

@@ -1,7 +1,8 @@
 ghost use Rattle.std.specs.Prelude.{◌≡◌};
 ghost use Rattle.theory_cli.specs.Ending.{exit_number};
 ghost use Rattle.theory_cli.specs.Running as running;
-ghost use Rattle.theory_cli.specs.Session as session;
+ghost use Rattle.theory_cli.specs.Plain.{reply_of, replies_of};
+ghost use Rattle.theory_session.specs.Run as session;
 
 use crate::reply::{Replies, Reply};
 use theory_meaning::Verdict;
@@ -15,7 +16,7 @@ pub enum Status {
     Undecided,
     /// The words are no command.
     NoCommand,
-    /// The text of the file or its model is refused, or not decided yet.
+    /// The text of the file or its model is refused.
     Refused,
     /// The file can't be read.
     Unread,
@@ -44,7 +45,7 @@ impl Status {
 
 /// How a run ends that made and wrote all these replies.
 pub fn ended_with(replies: &Replies) -> Status
-    ensures { result ≡ running.ended_with replies.now }
+    ensures { result ≡ running.ended_with (replies_of replies.now) }
 {
     if some_undecided(replies.as_slice()) {
         Status::Undecided
@@ -54,7 +55,7 @@ pub fn ended_with(replies: &Replies) -> Status
 }
 
 fn some_undecided(replies: &[Reply]) -> bool
-    ensures { result ≡ session.some_undecided replies.now }
+    ensures { result ≡ session.some_undecided (replies_of replies.now) }
 {
     for reply in replies {
         if is_undecided(reply) {
@@ -65,10 +66,10 @@ fn some_undecided(replies: &[Reply]) -> bool
 }
 
 fn is_undecided(reply: &Reply) -> bool
-    ensures { result ≡ session.is_undecided reply.now }
+    ensures { result ≡ session.is_undecided (reply_of reply.now) }
 {
     match reply {
-        Reply::Created(_) => false,
+        Reply::Created(_) | Reply::Derived(_) => false,
         Reply::Answered(answer) => is_left(answer.verdict),
     }
 }

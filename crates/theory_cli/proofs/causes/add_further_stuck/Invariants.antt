@@ -1,6 +1,6 @@
 use Rattle.std.proofs.Common.{◌≡◌, ◌++◌, drop, map}
 use Rattle.theory_verdict.specs.Plain.{stuck_of}
-use Rattle.theory_cli.specs.Printed.{further_stuck}
+use Rattle.theory_session.specs.Printed.{further_stuck}
 use Rattle.theory_cli.proofs.causes.add_further_stuck.Given as goal
 
 abbrev pub invariant-loop-on : goal.invariant-loop-on

@@ -1,5 +1,5 @@
 use Rattle.std.proofs.Common.{◌≡◌, ◌++◌, drop}
-use Rattle.theory_cli.specs.Printed.{further_text}
+use Rattle.theory_session.specs.Printed.{further_text}
 use Rattle.theory_cli.proofs.printing.add_further.Given as goal
 
 abbrev pub invariant-loop-symbol : goal.invariant-loop-symbol

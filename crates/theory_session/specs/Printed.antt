@@ -1,15 +1,15 @@
 -- The printed form of replies. docs/PROTOCOL.md has it in words.
 use Rattle.std.specs.Prelude.{ℕ, List, [], ◌∷◌, ◌++◌, Option, Some, None, codes, decimal}
+use Rattle.theory_meaning.specs.declared.words.Rel.TheVariants.{Eq}
 use Rattle.theory_meaning.specs.declared.words.Verdict.{Verdict}
 use Rattle.theory_meaning.specs.Point.{Name, Point, value_at}
 use Rattle.theory_meaning.specs.Printed.{fraction_text, verdict_text}
 use Rattle.theory_meaning.specs.Half.{Cause, stuck, wide, large, budget, many_leaves, Half, found, found_wide, absent, left}
 use Rattle.theory_meaning.specs.Tree.{Claim}
-use Rattle.theory_grammar.specs.Printed.{claim_text}
-use Rattle.theory_syntax.specs.Plain.{claim_of}
-use Rattle.theory_verdict.specs.Plain.{cause_of}
-use Rattle.theory_verdict.specs.declared.answer.Region.{Region}
-use Rattle.theory_verdict.specs.declared.answer.Region.TheVariants.{Known, Unknown}
+use Rattle.theory_grammar.specs.Printed.{claim_text, sides_text}
+use Rattle.theory_derivative.specs.Differentiated.{Differentiated}
+use Rattle.theory_session.specs.Ask.{Region, known, unknown, Answer}
+use Rattle.theory_session.specs.Run.{Reply, created, answered, derived}
 
 -- a name with its value
 abbrev pub entry_text : Point → Name → List ℕ
@@ -76,8 +76,8 @@ halves_text names example counter = half_line (codes "  example: ") names exampl
 
 -- the condition under which a claim holds, or why it isn't known
 abbrev pub region_text : Region → List ℕ
-region_text (Known condition) = claim_text (claim_of condition)
-region_text (Unknown cause) = codes "unknown, " ++ cause_text (cause_of cause)
+region_text (known condition) = claim_text condition
+region_text (unknown cause) = codes "unknown, " ++ cause_text cause
 
 -- its line, where there is one
 abbrev pub region_line : Option Region → List ℕ
@@ -87,3 +87,28 @@ region_line (Some region) = codes "  holds where: " ++ region_text region ++ lin
 -- the line of a created model
 abbrev pub created_text : Name → ℕ → List ℕ
 created_text model version = codes "created " ++ model ++ codes " " ++ decimal version ++ line_end
+
+-- the lines of an answer
+abbrev pub answer_text : Answer → List ℕ
+answer_text a =
+    question_text a.model a.version a.claim a.verdict ++ halves_text a.symbols a.example a.counter ++ region_line a.region
+
+-- the line of a differentiated equation
+abbrev pub differentiated_text : Differentiated → List ℕ
+differentiated_text d = d.label ++ codes " by " ++ d.by ++ codes ": " ++ sides_text d.left Eq d.right ++ line_end
+
+-- the lines of differentiated equations
+abbrev pub derived_text : List Differentiated → List ℕ
+derived_text [] = []
+derived_text (d ∷ ds) = differentiated_text d ++ derived_text ds
+
+-- the printed form of a reply
+abbrev pub reply_text : Reply → List ℕ
+reply_text (created model version) = created_text model version
+reply_text (answered a) = answer_text a
+reply_text (derived equations) = derived_text equations
+
+-- the printed forms of replies, one after another
+abbrev pub replies_text : List Reply → List ℕ
+replies_text [] = []
+replies_text (r ∷ rs) = reply_text r ++ replies_text rs

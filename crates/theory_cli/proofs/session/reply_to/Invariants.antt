@@ -1,7 +1,0 @@
-use Rattle.theory_decision.specs.Engine.{engine}
-use Rattle.theory_cli.proofs.SessionLemmas.{GoneOn}
-use Rattle.theory_cli.proofs.session.reply_to.Given as goal
-
-abbrev pub invariant-loop-numbered : goal.invariant-loop-numbered
-invariant-loop-numbered g l =
-    GoneOn engine l.model l.numbered-index l.replies (g.O.Sink.told l.fn.out) (g.O.Sink.told l.out)
