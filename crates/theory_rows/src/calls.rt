@@ -1,6 +1,6 @@
 //! Which call a row's first word names.
 
-use crate::{changing, lists, long, models, postfix, reading, tokens, writing};
+use crate::{changing, lists, long, models, postfix, reading, statics, tokens, writing};
 use std::alloc::Global;
 use theory_points::Bytes;
 use theory_rows_decide::calls as deciding_calls;
@@ -90,6 +90,7 @@ fn of_bytes(
         "edits" => reading::edits(alloc, bytes),
         "model" => models::judged(alloc, bytes),
         "symbols" => models::listed(alloc, bytes, second),
+        "derivative" => statics::derivative(alloc, bytes, second),
         "edit" => changing::changed(alloc, bytes, bytes_of(alloc, second)?.as_slice()),
         _ => Err(RowFault::Unreadable),
     }

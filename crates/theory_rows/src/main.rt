@@ -11,6 +11,7 @@ mod postfix;
 mod reading;
 mod rows;
 mod spelling;
+mod statics;
 mod tables;
 mod tokens;
 mod writing;

@@ -8,6 +8,7 @@ use theory_points::{Bytes, Limit, NoMemory, Wide};
 use theory_rows_method::fault::RowFault;
 use theory_rows_method::telling::{add_apart, told};
 use theory_text::{TextError, TextKind};
+use theory_words::WordsFault;
 
 /// The text of an error.
 pub fn message(alloc: Global, error: &str) -> Result<Bytes, RowFault> {
@@ -29,6 +30,8 @@ fn text_of(alloc: Global, error: &str) -> Option<Result<String, AllocError>> {
         "LowerFault::Large" => LowerFault::Large.to_string(alloc),
         "LowerFault::Wide" => LowerFault::Wide.to_string(alloc),
         "LowerFault::Memory" => LowerFault::Memory.to_string(alloc),
+        "WordsFault::NoCommand" => WordsFault::NoCommand.to_string(alloc),
+        "WordsFault::NoMemory" => WordsFault::NoMemory.to_string(alloc),
         _ => return of_edit(alloc, error),
     })
 }
