@@ -7,6 +7,7 @@ use Rattle.std.proofs.lemmas.Slice.Eq.{bytes_eq-Decides}
 use Rattle.theory_meaning.specs.declared.words.Kind.{Kind}
 use Rattle.theory_meaning.specs.Fraction.{whole}
 use Rattle.theory_meaning.specs.Point.{Name}
+use Rattle.theory_meaning.specs.Region.{known}
 use Rattle.theory_meaning.specs.Tree.{Expr, number, symbol, sum, difference, opposite, power, product, Claim, Claims}
 use Rattle.theory_meaning.specs.Tree as claim
 use Rattle.theory_polynomial.specs.Polynomial.{Monomial, IsFreeOf}
@@ -18,7 +19,7 @@ use Rattle.theory_lowering.proofs.LoweredAtoms.{lowered_proper}
 use Rattle.theory_signed.specs.ByKind.{simplified_for}
 use Rattle.theory_decision.specs.Choice.{is_one_of}
 use Rattle.theory_decision.specs.Outcomes.{Leaves, all_of, true_everywhere, failed_before, AreLeaves}
-use Rattle.theory_decision.specs.Answers.{condition_of, Lowering, refused, lowered, IsLowering, known, region_by, IsRegionOf, IsWrittenRegion}
+use Rattle.theory_decision.specs.Answers.{condition_of, Lowering, refused, lowered, IsLowering, region_by, IsRegionOf, IsWrittenRegion}
 use Rattle.theory_decision.proofs.LeafFacts.{condition_free}
 use Rattle.theory_decision.proofs.AtomFacts.{negated_each}
 
@@ -131,7 +132,7 @@ module _ (chosen : List Name) where
       claims_listed (more F Fs) h = (claim_listed F h.0, claims_listed Fs h.1)
 
 -- a place of a chosen name is that name's
-name_at : (x : Name) (ns : List Name) → place_of x ns < length ns → get_or ns (place_of x ns) [] ≡ x
+pub name_at : (x : Name) (ns : List Name) → place_of x ns < length ns → get_or ns (place_of x ns) [] ≡ x
 name_at x [] h = absurd (omega (arith, h))
 name_at x (y ∷ ns) h =
     elim (bytes_eq y x) as (λ b. bytes_eq y x ≡ b → (if b then zero else suc (place_of x ns)) < suc (length ns)
@@ -140,12 +141,12 @@ name_at x (y ∷ ns) h =
       | false ↦ λ e l. name_at x ns (omega (arith, l))
     ] refl (omega (arith, h))
 
-own_place : (x : Name) (on : List Name) → place_of x (x ∷ on) < suc (length on)
+pub own_place : (x : Name) (on : List Name) → place_of x (x ∷ on) < suc (length on)
 own_place x on =
     let same : bytes_eq x x ≡ true = (bytes_eq-Decides x x).1 refl in
     subst (λ (b : Bool). (if b then zero else suc (place_of x on)) < suc (length on)) (sym same) (omega arith)
 
-later_place : (x y : Name) (on : List Name) → place_of x on < length on → place_of x (y ∷ on) < suc (length on)
+pub later_place : (x y : Name) (on : List Name) → place_of x on < length on → place_of x (y ∷ on) < suc (length on)
 later_place x y on h =
     elim (bytes_eq y x) as (λ b. (if b then zero else suc (place_of x on)) < suc (length on)) [
       | true ↦ omega arith

@@ -20,11 +20,12 @@ pub mod PickExists
 pub mod WorkedRuns
 pub mod NamedPoints
 pub mod HalfTruth
-pub mod EngineAnswers
 pub mod StuckAtoms
-pub mod RegionTruth
 pub mod AlikeValues
 pub mod OneWitness
 pub mod OneAnswer
 pub mod ChoicePlaces
 pub mod ConditionNames
+pub mod ChosenNames
+pub mod RegionTruth
+pub mod EngineAnswers

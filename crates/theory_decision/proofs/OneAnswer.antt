@@ -5,13 +5,14 @@ use Rattle.theory_meaning.specs.declared.words.Kind.{Kind}
 use Rattle.theory_meaning.specs.Half as half
 use Rattle.theory_meaning.specs.Half.{Half, Cause}
 use Rattle.theory_meaning.specs.Point.{Name}
+use Rattle.theory_meaning.specs.Region.{Region}
 use Rattle.theory_meaning.specs.Tree.{Claim}
 use Rattle.theory_polynomial.specs.PolynomialValue.{Values}
 use Rattle.theory_lowering.specs.Lowered.{place_of}
 use Rattle.theory_lowering.proofs.SingleLowered.{lowered_single}
 use Rattle.theory_lowering.proofs.LoweredAtoms.{lowered_proper}
 use Rattle.theory_decision.specs.Outcomes.{Outcome, hits_by, empty, failed_by}
-use Rattle.theory_decision.specs.Answers.{named, Lowering, refused, lowered, IsLowering, IsHalfBy, IsHalfOf, IsWrittenHalf, Region, region_by, IsRegionOf, IsWrittenRegion}
+use Rattle.theory_decision.specs.Answers.{named, Lowering, refused, lowered, IsLowering, IsHalfBy, IsHalfOf, IsWrittenHalf, region_by, IsRegionOf, IsWrittenRegion}
 use Rattle.theory_decision.proofs.OneRun.{search_once, leaves_once}
 use Rattle.theory_decision.proofs.OneWitness.{witness_single, witness_not_wide}
 

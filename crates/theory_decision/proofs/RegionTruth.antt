@@ -1,9 +1,11 @@
--- A known condition on names is true exactly where no point with their values meets the claims.
+-- A known condition on names is true exactly where no point with their values meets the claims, and holds these names alone.
 use Rattle.std.proofs.Common.{◌≡◌, ℕ, ◌≤◌, length, Bool, true, false, not, List, [], ◌∷◌, refl, sym, ap, ap₂, ◌∙◌, subst, arith, inl, inr}
-use Rattle.std.specs.Prelude.{◌↔◌, ◌==◌, ◌||◌, map, IsTrue}
+use Rattle.std.specs.Prelude.{◌==◌, ◌||◌, map, IsTrue}
 use Rattle.std.proofs.lemmas.Bool.{cases_Bool}
 use Rattle.theory_meaning.specs.Fraction.{Fraction, IsSame}
 use Rattle.theory_meaning.specs.Point.{Name, Point, value_at, AreDistinct}
+use Rattle.theory_meaning.specs.Region.{Region, known, unknown, AreAmong, HoldsOnly, IsRightFor, IsRightRegion}
+use Rattle.theory_meaning.specs.Region.{AgreeOn as AgreeOnNames}
 use Rattle.theory_meaning.specs.Tree.{Claim, never}
 use Rattle.theory_meaning.specs.Truth.{truth_of, Meets}
 use Rattle.theory_polynomial.specs.Polynomial.{IsFreeOf}
@@ -21,13 +23,15 @@ use Rattle.theory_meaning.specs.declared.words.Kind.{Kind}
 use Rattle.theory_decision.specs.Choice.{Symbols, is_one_of}
 use Rattle.theory_decision.specs.Outcomes.{Leaves, all_of, true_everywhere, failed_before, AreLeaves}
 use Rattle.theory_decision.specs.Regions.{AgreeOn, IsTrueFor}
-use Rattle.theory_decision.specs.Answers.{named, AreListedNames, AgreeAt, condition_of, Lowering, refused, lowered, IsLowering, known, region_by, IsRegionOf}
+use Rattle.theory_decision.specs.Answers.{named, condition_of, Lowering, refused, lowered, IsLowering, region_by, IsRegionOf, IsWrittenRegion}
 use Rattle.theory_lowering.proofs.LoweredAtoms.{lowered_proper}
 use Rattle.theory_decision.proofs.OutcomeTruth.{leaves_are_right, everywhere_is_right}
 use Rattle.theory_decision.proofs.NamedPoints.{named_symbol}
 use Rattle.theory_decision.proofs.HalfTruth.{meets_named}
 use Rattle.theory_decision.proofs.LeafFacts.{condition_proper, condition_free}
 use Rattle.theory_decision.proofs.AtomFacts.{negated_each}
+use Rattle.theory_decision.proofs.ChosenNames.{AreListedNames, AgreeAt, places_of_names, agree_at, agree_on, claim_among}
+use Rattle.theory_decision.proofs.ConditionNames.{region_listed}
 use Rattle.theory_decision.proofs.Nodes.{in_simplified}
 use Rattle.theory_decision.proofs.AtomFacts.{each_is_over}
 
@@ -41,7 +45,10 @@ is_false false n = refl
 
 module _ (kind : Kind) (ns : List Name) (cs : List Claim) (on_names : List Name) (few : length ns ≤ 32) (listed : AreListed ns cs)
     (distinct : AreDistinct ns)
-    (chosen : AreListedNames ns on_names) where
+    (among : AreAmong on_names ns) where
+  chosen : AreListedNames ns on_names
+  chosen = places_of_names ns on_names among
+
   abbrev places : List Name → Symbols
   places on = map (λ n. place_of n ns) on
 
@@ -90,15 +97,15 @@ module _ (kind : Kind) (ns : List Name) (cs : List Claim) (on_names : List Name)
 
   -- some point with these values meets the claims
   abbrev IsMetWith : Point → Type 0
-  IsMetWith p = (q : Point) × AgreeAt on_names p q × Meets cs q
+  IsMetWith p = (q : Point) × AgreeOnNames on_names p q × Meets cs q
 
   met_for : (F : Formula) (p : Point) → IsLowered ns cs F → IsMetWith p → IsTrueFor (places on_names) (values_of ns p) F
-  met_for F p w m = (values_of ns m.0, symbols_agree on_names p m.0 chosen m.1, lowered_truth ns cs F m.0 few listed w ∙ m.2)
+  met_for F p w m = (values_of ns m.0, symbols_agree on_names p m.0 chosen (agree_at on_names p m.0 m.1), lowered_truth ns cs F m.0 few listed w ∙ m.2)
 
   for_met : (F : Formula) (p : Point) → IsLowered ns cs F → IsTrueFor (places on_names) (values_of ns p) F → IsMetWith p
-  for_met F p w t = (named ns t.0, names_agree on_names p t.0 chosen t.1, meets_named kind ns cs few listed distinct F t.0 w t.2)
+  for_met F p w t = (named ns t.0, agree_on on_names p (named ns t.0) (names_agree on_names p t.0 chosen t.1), meets_named kind ns cs few listed distinct F t.0 w t.2)
 
-  condition_named : (F : Formula) (leaves : List Formula) → IsLowered ns cs F → AreLeaves (places on_names) kind F (all_of leaves)
+  pub condition_named : (F : Formula) (leaves : List Formula) → IsLowered ns cs F → AreLeaves (places on_names) kind F (all_of leaves)
       → EachAtom (IsNamed ns) (negated (simplified_for kind (disjunction (formulas_from leaves))))
   condition_named F leaves w l =
       let S = simplified_for kind (disjunction (formulas_from leaves)) in
@@ -115,31 +122,43 @@ module _ (kind : Kind) (ns : List Name) (cs : List Claim) (on_names : List Name)
       ∙ negation_turns (simplified_for kind G) (values_of ns p) ∙ ap not (sym (in_simplified kind G (values_of ns p) proper))
 
   -- the condition is true exactly where no point with these values meets the claims
-  abbrev pub IsRightCondition : Claim → Type 0
-  IsRightCondition C = (p : Point) → IsTrue (truth_of C p) ↔ (IsMetWith p → ⊥)
-
   leaves_right : (F : Formula) (leaves : List Formula) → IsLowered ns cs F → AreLeaves (places on_names) kind F (all_of leaves)
-      → IsRightCondition (condition_of kind ns leaves)
+      → IsRightFor cs on_names (condition_of kind ns leaves)
   leaves_right F leaves w l p =
       let right = leaves_are_right (places on_names) kind F leaves (lowered_proper ns cs F w) l (values_of ns p) in
       let truth = condition_truth F leaves p w l in (
-        λ t m. not_true (truth_at (disjunction (formulas_from leaves)) (values_of ns p)) (sym truth ∙ t) (right.1 (met_for F p w m)),
-        λ n. truth ∙ is_false (truth_at (disjunction (formulas_from leaves)) (values_of ns p)) (λ t. n (for_met F p w (right.0 t))),
+        λ t q a m. not_true (truth_at (disjunction (formulas_from leaves)) (values_of ns p)) (sym truth ∙ t) (right.1 (met_for F p w (q, a, m))),
+        λ n. truth ∙ is_false (truth_at (disjunction (formulas_from leaves)) (values_of ns p)) (λ t. let m = for_met F p w (right.0 t) in n m.0 m.1 m.2),
       )
 
-  everywhere_right : (F : Formula) → IsLowered ns cs F → AreLeaves (places on_names) kind F true_everywhere → IsRightCondition never
-  everywhere_right F w l p = (
-    λ t. absurd cc,
-    λ n. absurd (n (for_met F p w (everywhere_is_right (places on_names) kind F (lowered_proper ns cs F w) l (values_of ns p)))),
-  )
+  everywhere_right : (F : Formula) → IsLowered ns cs F → AreLeaves (places on_names) kind F true_everywhere → IsRightFor cs on_names never
+  everywhere_right F w l p =
+      let m = for_met F p w (everywhere_is_right (places on_names) kind F (lowered_proper ns cs F w) l (values_of ns p)) in (
+        λ t. absurd cc,
+        λ n. absurd (n m.0 m.1 m.2),
+      )
 
   by_leaves : (F : Formula) (l : Leaves) (C : Claim) → IsLowered ns cs F → AreLeaves (places on_names) kind F l → known C ≡ region_by kind ns l
-      → IsRightCondition C
+      → IsRightFor cs on_names C
   by_leaves F (all_of leaves) C w l e =
-      let same : C ≡ condition_of kind ns leaves = cc in subst IsRightCondition (sym same) (leaves_right F leaves w l)
-  by_leaves F true_everywhere C w l e = let same : C ≡ never = cc in subst IsRightCondition (sym same) (everywhere_right F w l)
+      let same : C ≡ condition_of kind ns leaves = cc in subst (IsRightFor cs on_names) (sym same) (leaves_right F leaves w l)
+  by_leaves F true_everywhere C w l e = let same : C ≡ never = cc in subst (IsRightFor cs on_names) (sym same) (everywhere_right F w l)
   by_leaves F (failed_before f) C w l e = absurd cc
 
-  pub region_right : (C : Claim) (l : Lowering) → IsLowering ns cs l → IsRegionOf kind ns on_names l (known C) → IsRightCondition C
-  region_right C (refused c) k b = absurd cc
-  region_right C (lowered F) k b = by_leaves F b.0 C k.2 b.1 b.2
+  by_lowering : (C : Claim) (l : Lowering) → IsLowering ns cs l → IsRegionOf kind ns on_names l (known C) → IsRightFor cs on_names C
+  by_lowering C (refused c) k b = absurd cc
+  by_lowering C (lowered F) k b = by_leaves F b.0 C k.2 b.1 b.2
+
+  pub known_is_right : (C : Claim) → IsWrittenRegion kind ns cs on_names (known C) → IsRightFor cs on_names C
+  known_is_right C w = by_lowering C w.0 w.1 w.2
+
+-- and it holds these names alone
+pub known_holds_names : (kind : Kind) (ns : List Name) (cs : List Claim) (on_names : List Name) (C : Claim)
+    → IsWrittenRegion kind ns cs on_names (known C) → HoldsOnly on_names C
+known_holds_names kind ns cs on_names C w = claim_among on_names C (region_listed ns on_names kind cs C w)
+
+pub written_region_is_right : (kind : Kind) (ns : List Name) (cs : List Claim) (on_names : List Name) (r : Region) → length ns ≤ 32 → AreListed ns cs
+    → AreDistinct ns → AreAmong on_names ns → IsWrittenRegion kind ns cs on_names r → IsRightRegion cs on_names r
+written_region_is_right kind ns cs on_names (known C) few listed distinct among w =
+    (known_holds_names kind ns cs on_names C w, known_is_right kind ns cs on_names few listed distinct among C w)
+written_region_is_right kind ns cs on_names (unknown cause) few listed distinct among w = tt

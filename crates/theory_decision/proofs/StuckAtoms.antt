@@ -13,7 +13,7 @@ use Rattle.theory_signed.proofs.KindAtoms.{kind_free}
 use Rattle.theory_decision.specs.Choice.{Symbols, others, candidates, chosen}
 use Rattle.theory_decision.specs.Finding.{StuckAtom, stuck_at, Failure, AreFreeOf, IsFreeFailure, large, budget, many_leaves, Node, reached, too_wide, IsNode, Finding, nowhere, everywhere, fails, leaf, eliminates, is_large, finding_by, open_finding, finding_in, finding}
 use Rattle.theory_decision.specs.Search.{Progress, Run, goes_on, hit, over, first_failure, counted, below, Visit, spent, closed, found, failed, kept, dropped, branched, Visits, past, next, hits, ends, start}
-use Rattle.theory_decision.specs.Outcomes.{failed_by, IsOutcome, IsSearch}
+use Rattle.theory_decision.specs.Outcomes.{failed_by, IsOutcome, IsSearch, failed_before, leaves_by, leaves_of, AreLeaves}
 use Rattle.theory_decision.proofs.Findings.{found_says}
 
 module _ (y : ℕ) where
@@ -128,3 +128,17 @@ module _ (y : ℕ) where
 
   pub search_free : (kind : Kind) (F : Formula) (f : Failure) → IsFree y F → IsSearch kind F (failed_by f) → IsFreeFailure y f
   search_free kind F f h w = failed_free f w.0 w.2 (visit_free [] kind 0 (reached F) start w.0 h tt w.1)
+
+  -- and of leaves
+  met_free : (f : Failure) (o : Option Failure) (leaves : List Formula) → failed_before f ≡ leaves_by o leaves → IsFreeMet o → IsFreeFailure y f
+  met_free f None leaves e h = absurd cc
+  met_free f (Some g) leaves e h = let same : f ≡ g = cc in subst (IsFreeFailure y) (sym same) h
+
+  before_free : (f : Failure) (r : Run) → failed_before f ≡ leaves_of r → IsFreeRun r → IsFreeFailure y f
+  before_free f (hit path) e h = absurd cc
+  before_free f (over g) e h = let same : f ≡ g = cc in subst (IsFreeFailure y) (sym same) h
+  before_free f (goes_on s) e h = met_free f s.failure s.leaves e h
+
+  pub leaves_free : (keep : Symbols) (kind : Kind) (F : Formula) (f : Failure) → IsFree y F → AreLeaves keep kind F (failed_before f)
+      → IsFreeFailure y f
+  leaves_free keep kind F f h w = before_free f w.0 w.2 (visit_free keep kind 0 (reached F) start w.0 h tt w.1)

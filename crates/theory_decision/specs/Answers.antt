@@ -1,8 +1,8 @@
 -- The half of a list of claims and the condition on some names, as they are written. Source: this project's own.
-use Rattle.std.specs.Prelude.{◌≡◌, ◌⊎◌, ◌<◌, List, [], ◌∷◌, map, length, slice_index_or}
+use Rattle.std.specs.Prelude.{◌≡◌, ◌⊎◌, List, [], ◌∷◌, map, length, slice_index_or}
 use Rattle.theory_meaning.specs.declared.words.Kind.{Kind}
-use Rattle.theory_meaning.specs.Fraction.{IsSame}
-use Rattle.theory_meaning.specs.Point.{Name, Point, value_at}
+use Rattle.theory_meaning.specs.Point.{Name, Point}
+use Rattle.theory_meaning.specs.Region.{Region, known, unknown}
 use Rattle.theory_meaning.specs.Tree.{Claim, never}
 use Rattle.theory_meaning.specs.Half as half
 use Rattle.theory_meaning.specs.Half.{Half, Cause}
@@ -62,11 +62,6 @@ IsHalfOf kind ns (lowered F) h = (o : Outcome) × IsSearch kind F o × IsHalfBy 
 abbrev pub IsWrittenHalf : Kind → List Name → List Claim → Half → Type 0
 IsWrittenHalf kind ns cs h = (l : Lowering) × IsLowering ns cs l × IsHalfOf kind ns l h
 
--- a condition on names, or why it is unknown
-pub data Region : Type 0 where
-  known : Claim → Region
-  unknown : Cause → Region
-
 -- the condition under which no leaf is true
 abbrev pub condition_of : Kind → List Name → List Formula → Claim
 condition_of kind ns leaves = written_claim ns (negated (simplified_for kind (disjunction (formulas_from leaves))))
@@ -77,21 +72,15 @@ region_by kind ns (all_of leaves) = known (condition_of kind ns leaves)
 region_by kind ns true_everywhere = known never
 region_by kind ns (failed_before f) = unknown (cause_of ns f)
 
+-- the symbols of some of the listed names
+abbrev pub symbols_of : List Name → List Name → Symbols
+symbols_of ns on = map (λ n. place_of n ns) on
+
 -- the condition by the lowered formula
 abbrev pub IsRegionOf : Kind → List Name → List Name → Lowering → Region → Type 0
 IsRegionOf kind ns on (refused c) r = r ≡ unknown c
-IsRegionOf kind ns on (lowered F) r = (l : Leaves) × AreLeaves (map (λ n. place_of n ns) on) kind F l × (r ≡ region_by kind ns l)
+IsRegionOf kind ns on (lowered F) r = (l : Leaves) × AreLeaves (symbols_of ns on) kind F l × (r ≡ region_by kind ns l)
 
 -- the written condition on names, of the claims of a counterexample
 abbrev pub IsWrittenRegion : Kind → List Name → List Claim → List Name → Region → Type 0
 IsWrittenRegion kind ns cs on r = (l : Lowering) × IsLowering ns cs l × IsRegionOf kind ns on l r
-
--- each of the names is listed
-abbrev pub AreListedNames : List Name → List Name → Type 0
-AreListedNames ns [] = Unit {0}
-AreListedNames ns (n ∷ on) = (place_of n ns < length ns) × AreListedNames ns on
-
--- the points give these names the same values
-abbrev pub AgreeAt : List Name → Point → Point → Type 0
-AgreeAt [] p q = Unit {0}
-AgreeAt (n ∷ on) p q = IsSame (value_at p n) (value_at q n) × AgreeAt on p q

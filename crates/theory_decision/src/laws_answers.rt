@@ -1,12 +1,12 @@
-ghost use Rattle.std.specs.Prelude.{◌≡◌, ◌≤◌, ◌↔◌, List, length, IsTrue};
+ghost use Rattle.std.specs.Prelude.{◌≡◌, ◌≤◌, List, length};
 ghost use Rattle.theory_meaning.specs.declared.words.Kind.{Kind};
-ghost use Rattle.theory_meaning.specs.Deciding.{IsHalf};
+ghost use Rattle.theory_meaning.specs.Deciding.{IsHalf, IsRegion};
 ghost use Rattle.theory_meaning.specs.Half.{Half, IsRightHalf};
-ghost use Rattle.theory_meaning.specs.Point.{Name, Point, AreDistinct};
+ghost use Rattle.theory_meaning.specs.Point.{Name, AreDistinct};
+ghost use Rattle.theory_meaning.specs.Region.{Region, known, AreAmong, HoldsOnly, IsRightFor};
 ghost use Rattle.theory_meaning.specs.Tree.{Claim};
-ghost use Rattle.theory_meaning.specs.Truth.{truth_of, Meets};
-ghost use Rattle.theory_lowering.specs.LoweringLimits.{AreListed, IsListedClaim};
-ghost use Rattle.theory_decision.specs.Answers.{AreListedNames, AgreeAt, Region, known, IsWrittenHalf, IsWrittenRegion};
+ghost use Rattle.theory_lowering.specs.LoweringLimits.{AreListed};
+ghost use Rattle.theory_decision.specs.Answers.{IsWrittenHalf, IsWrittenRegion};
 ghost use Rattle.theory_decision.specs.Engine.{engine};
 
 /// What is written of a half is true of all points.
@@ -25,15 +25,21 @@ pub fn an_engine_may_answer_a_written_half()
 /// A known condition is true exactly where no point with these values meets the claims.
 pub fn a_known_condition_is_right()
     ensures { (kind : Kind) (ns : List Name) (cs : List Claim) (on : List Name) (C : Claim) →
-        length ns ≤ 32 → AreListed ns cs → AreDistinct ns → AreListedNames ns on →
-        IsWrittenRegion kind ns cs on (known C) → (p : Point) →
-        IsTrue (truth_of C p) ↔ ¬ ((q : Point) × AgreeAt on p q × Meets cs q) }
+        length ns ≤ 32 → AreListed ns cs → AreDistinct ns → AreAmong on ns →
+        IsWrittenRegion kind ns cs on (known C) → IsRightFor cs on C }
 {}
 
 /// It holds these names alone.
 pub fn a_known_condition_holds_its_names()
     ensures { (kind : Kind) (ns : List Name) (cs : List Claim) (on : List Name) (C : Claim) →
-        IsWrittenRegion kind ns cs on (known C) → IsListedClaim on C }
+        IsWrittenRegion kind ns cs on (known C) → HoldsOnly on C }
+{}
+
+/// An engine may answer a written condition.
+pub fn an_engine_may_answer_a_written_region()
+    ensures { (kind : Kind) (ns : List Name) (cs : List Claim) (on : List Name) (r : Region) →
+        length ns ≤ 32 → AreListed ns cs → AreDistinct ns → AreAmong on ns →
+        IsWrittenRegion kind ns cs on r → IsRegion engine ns cs on kind r }
 {}
 
 /// Claims have one written half, and one written condition on names.

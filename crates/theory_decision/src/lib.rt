@@ -15,7 +15,8 @@ mod laws_worked;
 pub use candidate::Candidate;
 pub use laws_answers::{
     a_known_condition_holds_its_names, a_known_condition_is_right, a_written_half_is_right,
-    an_engine_may_answer_a_written_half, written_answers_are_single,
+    an_engine_may_answer_a_written_half, an_engine_may_answer_a_written_region,
+    written_answers_are_single,
 };
 pub use laws_choice::{a_choice_is_a_place, a_chosen_symbol_is_a_candidate};
 pub use laws_search::{

@@ -4,5 +4,7 @@ pub mod WrittenValues
 pub mod SlopeLaws
 pub mod DivisorLaws
 pub mod SentenceLaws
+pub mod FaultlessLines
 pub mod ListedNames
+pub mod DistinctNames
 pub mod SentenceNames

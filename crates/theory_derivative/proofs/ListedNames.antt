@@ -1,6 +1,6 @@
 -- In a model without a fault the symbols of each line are listed, and those of written derivatives too.
-use Rattle.std.proofs.Common.{◌≡◌, ℕ, zero, suc, Bool, true, false, not, ◌&&◌, ◌||◌, if◌then◌else◌, cond, List, [], ◌∷◌, ◌++◌, map, Option, Some, None, is_some, option_map, ◌==◌, refl, sym, ap, ap₂, ◌∙◌, subst, arith, ◌⊎◌, inl, inr, ⊎_elim}
-use Rattle.std.proofs.lemmas.Bool.{cond_both, or_parts, or_cases, and_parts, cases_Bool, both_ways}
+use Rattle.std.proofs.Common.{◌≡◌, ℕ, zero, suc, Bool, true, false, not, ◌||◌, if◌then◌else◌, cond, List, [], ◌∷◌, ◌++◌, map, Option, Some, None, is_some, option_map, ◌==◌, refl, sym, ap, subst, arith, ◌⊎◌, inl, inr, ⊎_elim}
+use Rattle.std.proofs.lemmas.Bool.{cond_both, or_parts, or_cases, both_ways}
 use Rattle.std.proofs.lemmas.Slice.Eq.{bytes_eq-Decides}
 use Rattle.std.specs.List.{AllByRecursion, list_any}
 use Rattle.std.specs.Str.{bytes_eq}
@@ -9,8 +9,8 @@ use Rattle.theory_meaning.specs.ModelFault.{is_unknown_use, is_unfit_use, is_der
 use Rattle.theory_meaning.specs.Point.{Name}
 use Rattle.theory_meaning.specs.Slope.{derivative_name, slope_name}
 use Rattle.theory_meaning.specs.Text.{Numbered}
-use Rattle.theory_meaning.specs.Tree.{Expr, number, symbol, sum, difference, opposite, product, power, quotient, Line, model, var, param, function, equation, assume, claim}
-use Rattle.theory_derivative.specs.Derivative.{counted, is_number, plus, neg, minus, times, over, raised, of_power, of_product, of_quotient, of_plain, of_argument, of_arguments, of_name, derivative}
+use Rattle.theory_meaning.specs.Tree.{Expr, number, symbol, sum, difference, opposite, product, power, quotient, Line, var, param, function}
+use Rattle.theory_derivative.specs.Derivative.{counted, is_number, plus, neg, minus, times, over, raised, of_power, of_plain, of_argument, of_arguments, of_name, derivative}
 use Rattle.theory_derivative.proofs.WrittenValues.{chosen}
 
 -- a name stands among others

@@ -1,49 +1,25 @@
 -- In a model the sentences of a claim hold its listed symbols alone, and the claim is the one under its label.
-use Rattle.std.proofs.Common.{◌≡◌, ℕ, zero, suc, ◌<◌, ◌≤◌, Bool, true, false, ◌||◌, cond, List, [], ◌∷◌, ◌++◌, map, length, Option, Some, None, is_some, Contains, refl, sym, ap, ◌∙◌, subst, append_assoc, arith, ◌⊎◌, inl, inr, ⊎_elim}
-use Rattle.std.proofs.lemmas.Bool.{cond_both, or_parts, or_cases, or_left, or_right, cases_Bool, both_ways, ltb-false}
+use Rattle.std.proofs.Common.{◌≡◌, ℕ, ◌≤◌, Bool, true, false, cond, List, [], ◌∷◌, ◌++◌, map, length, Option, Some, None, is_some, Contains, refl, sym, ap, ◌∙◌, subst, append_assoc, arith, ⊎_elim}
+use Rattle.std.proofs.lemmas.Bool.{cond_both, or_parts, both_ways, ltb-false}
 use Rattle.std.proofs.lemmas.List.Elements.{All-contains, All-from_recursion, Contains-append_right}
 use Rattle.std.proofs.lemmas.Slice.Eq.{bytes_eq-Decides}
 use Rattle.std.specs.List.{AllByRecursion, list_any}
 use Rattle.std.specs.Str.{bytes_eq}
-use Rattle.theory_meaning.specs.declared.words.ModelKind.{ModelKind}
 use Rattle.theory_meaning.specs.declared.words.ModelKind.TheVariants.{KeyTwice, UnknownName, BadArgument, NoShift, TooManySymbols}
 use Rattle.theory_meaning.specs.Declarations.{key_of, or_else, named_by, symbols_of_expr, symbols_of_claim, symbols_of_claims, listed_in}
 use Rattle.theory_meaning.specs.Edit.{IsModel, lines_alone}
-use Rattle.theory_meaning.specs.ModelFault.{is_key, has_key, is_undeclared, is_unknown, is_unfit, is_slope, is_derivative, has_fault, first_that, line_with, fault_at, fault_among, model_kinds, most_symbols}
+use Rattle.theory_meaning.specs.ModelFault.{is_key, has_key, is_undeclared, is_unknown, is_unfit, is_slope, has_fault, most_symbols}
 use Rattle.theory_meaning.specs.Point.{Name}
 use Rattle.theory_meaning.specs.Question.{assumptions_of}
 use Rattle.theory_meaning.specs.Text.{Numbered}
-use Rattle.theory_meaning.specs.Tree.{Claim, atom, negation, claims_from, Line, model, var, param, function, equation, assume, claim}
+use Rattle.theory_meaning.specs.Tree.{Claim, negation, claims_from, Line, equation, assume, claim}
 use Rattle.theory_derivative.specs.Derivative.{derivative}
 use Rattle.theory_derivative.specs.Differentiated.{differentiated_by}
 use Rattle.theory_derivative.specs.Sentence.{equations_of, equal_derivatives, shifted_equations, asked_before, example_of, counter_of, claim_at, claim_in}
 use Rattle.theory_derivative.specs.Meaning.{HoldOnly, IsReadyForDeciding}
+use Rattle.theory_derivative.proofs.FaultlessLines.{IsWithout, without_each, faultless}
+use Rattle.theory_derivative.proofs.DistinctNames.{listed_are_distinct}
 use Rattle.theory_derivative.proofs.ListedNames.{IsAmong, IsListed, EachListed, symbols_listed, each_both, each_parts, derivative_listed}
-
--- a choice that gives nothing has a false test, and nothing in the other case
-none_chosen : {T : Type 0} (b : Bool) (x : T) (rest : Option T) → cond b (Some x) rest ≡ None → (b ≡ false) × (rest ≡ None)
-none_chosen true x rest h = absurd (grind (arith, h))
-none_chosen false x rest h = (refl, h)
-
--- where there is no fault, no line has one of any of the kinds
-none_of_each : (kinds : List ModelKind) (lines : List Numbered) → fault_among kinds lines ≡ None →
-    AllByRecursion (λ (kind : ModelKind). line_with kind lines ≡ None) kinds
-none_of_each [] lines h = tt
-none_of_each (kind ∷ kinds) lines h = by_line (line_with kind lines) h (none_of_each kinds lines)
-  where
-    by_line : (o : Option ℕ) → or_else (fault_at kind o) (fault_among kinds lines) ≡ None
-        → (fault_among kinds lines ≡ None → AllByRecursion (λ (kind : ModelKind). line_with kind lines ≡ None) kinds)
-        → (o ≡ None) × AllByRecursion (λ (kind : ModelKind). line_with kind lines ≡ None) kinds
-    by_line None k rest = (refl, rest k)
-    by_line (Some n) k rest = absurd (grind (arith, k))
-
--- the lines from here on, of which the first has these above it, have no fault of the kind
-abbrev IsWithout : List Numbered → ModelKind → List Numbered → List Numbered → Type 0
-IsWithout lines kind above ns = first_that (has_fault kind lines) above ns ≡ None
-
-without_each : (lines : List Numbered) (kind : ModelKind) (above : List Numbered) (n : Numbered) (ns : List Numbered) → IsWithout lines kind above (n ∷ ns)
-    → (has_fault kind lines above n.line ≡ false) × IsWithout lines kind (above ++ n ∷ []) ns
-without_each lines kind above n ns h = none_chosen (has_fault kind lines above n.line) n.at (first_that (has_fault kind lines) (above ++ n ∷ []) ns) h
 
 -- the symbols of an expression or a claim with none of these faults are listed
 module _ (b : Bool) (lines : List Numbered) where
@@ -150,19 +126,6 @@ before_held lines shift h =
     held_both b lines (equations_of ls) (shifted_equations lines shift ++ assumptions_of ls) (equations_held b lines ls h)
     (held_both b lines (shifted_equations lines shift) (assumptions_of ls) (shifted_held lines shift h) (assumptions_held b lines ls h))
 
--- a model has no fault of these kinds
-record IsFaultless (lines : List Numbered) : Type 0 where
-  keys : IsWithout lines KeyTwice [] lines
-  known : IsWithout lines UnknownName [] lines
-  fit : IsWithout lines BadArgument [] lines
-  plain : IsWithout lines NoShift [] lines
-  few : IsWithout lines TooManySymbols [] lines
-
-faultless : (lines : List Numbered) → IsModel lines → IsFaultless lines
-faultless lines is =
-    let each = none_of_each model_kinds lines is.faultless in
-    record { keys = each.1.0; known = each.1.1.0; fit = each.1.1.1.0; plain = each.1.1.1.1.0; few = each.1.1.1.1.1.1.0 }
-
 -- the sentences of a claim of a model
 pub sentences_are_ready : (lines : List Numbered) (label : Name) (shift : Option Name) (c : Claim) → IsModel lines
     → Contains (lines_alone lines) (claim label shift c) → IsReadyForDeciding lines shift c
@@ -174,6 +137,7 @@ sentences_are_ready lines label shift c is own =
     (All-from_recursion (HasListed b lines) (lines_alone lines) has) own refl in
     record {
       few = this.1;
+      distinct = listed_are_distinct b lines is.identifiers without.keys without.fit;
       example = only_listed b lines (example_of lines shift c) (held_both b lines (asked_before lines shift) (c ∷ []) (before_held lines shift has) (this.0, tt));
       counter = only_listed b lines (counter_of lines shift c)
           (held_both b lines (asked_before lines shift) (negation c ∷ []) (before_held lines shift has) (this.0, tt));

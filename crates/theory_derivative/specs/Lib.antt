@@ -3,3 +3,4 @@ pub mod Differentiated
 pub mod Sentence
 pub mod Meaning
 pub mod Worked
+pub mod WorkedModels

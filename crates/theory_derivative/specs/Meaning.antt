@@ -7,7 +7,8 @@ use Rattle.theory_meaning.specs.Divisors.{divisors_of_expr}
 use Rattle.theory_meaning.specs.Fraction.{IsSame}
 use Rattle.theory_meaning.specs.Half.{Half, IsRightHalf}
 use Rattle.theory_meaning.specs.Model.{IsExample, IsCounter, IsRightAnswer}
-use Rattle.theory_meaning.specs.Point.{Name, Point}
+use Rattle.theory_meaning.specs.Point.{Name, Point, AreDistinct}
+use Rattle.theory_meaning.specs.Region.{AreAmong}
 use Rattle.theory_meaning.specs.Slope.{slope_of}
 use Rattle.theory_meaning.specs.Text.{Numbered}
 use Rattle.theory_meaning.specs.Tree.{Expr, Claim, claim, claims_from}
@@ -45,11 +46,12 @@ SentencesGiveTheRightAnswer =
 
 -- each symbol in the claims is one of these names
 abbrev pub HoldOnly : List Name → List Claim → Type 0
-HoldOnly names cs = (x : Name) → Contains (symbols_of_claims (claims_from cs)) x → Contains names x
+HoldOnly names cs = AreAmong (symbols_of_claims (claims_from cs)) names
 
--- what deciding wants of the sentences of a claim: few listed symbols, and no others
+-- what deciding wants of the sentences of a claim: few listed symbols, each once, and no others
 pub record IsReadyForDeciding (lines : List Numbered) (shift : Option Name) (c : Claim) : Type 0 where
   pub few : length (listed_in (is_some shift) lines) ≤ most_symbols
+  pub distinct : AreDistinct (listed_in (is_some shift) lines)
   pub example : HoldOnly (listed_in (is_some shift) lines) (example_of lines shift c)
   pub counter : HoldOnly (listed_in (is_some shift) lines) (counter_of lines shift c)
 

@@ -21,7 +21,7 @@ pub fn answers_of_sentences_are_right()
     ensures { SentencesGiveTheRightAnswer }
 {}
 
-/// The sentences of a claim of a model hold its listed symbols alone, which are few.
+/// The listed symbols of a claim are few and distinct, and its sentences hold no others.
 pub fn sentences_hold_listed_symbols()
     ensures { SentencesAreReady }
 {}

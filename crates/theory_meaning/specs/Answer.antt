@@ -1,12 +1,10 @@
 -- What right halves say of a verdict, for any two tests of points and for the lines of a model.
 use Rattle.std.specs.Prelude.{◌≡◌, Bool, List, Option, IsTrue}
-use Rattle.theory_meaning.specs.declared.words.Kind.{Kind}
 use Rattle.theory_meaning.specs.declared.words.Verdict.{Verdict}
 use Rattle.theory_meaning.specs.declared.words.Verdict.TheVariants.{Undecided}
 use Rattle.theory_meaning.specs.Half.{Half, IsRightHalfOf}
 use Rattle.theory_meaning.specs.Model.{IsExample, IsCounter, IsRightAnswer}
 use Rattle.theory_meaning.specs.Point.{Name, Point}
-use Rattle.theory_meaning.specs.Question.{example_sentence, counter_sentence}
 use Rattle.theory_meaning.specs.Text.{Numbered}
 use Rattle.theory_meaning.specs.Tree.{Claim}
 use Rattle.theory_meaning.specs.Verdict.{verdict_of_halves, IsRightVerdict}
@@ -35,9 +33,3 @@ RightHalvesGiveTheRightAnswer =
     (lines : List Numbered) (shift : Option Name) (c : Claim) (example counter : Half)
     → IsRightHalfOf (IsExample lines shift c) example → IsRightHalfOf (IsCounter lines shift c) counter
     → IsRightAnswer lines shift c example counter (verdict_of_halves example counter)
-
--- an answer where May says which halves may be given for a sentence by an order: one for each question, and the verdict of the table
-pub record IsAnswerBy (May : List Claim → Kind → Half → Type 0) (kind : Kind) (assumed : List Claim) (c : Claim) (example counter : Half) (verdict : Verdict) : Type 0 where
-  pub example_may : May (example_sentence assumed c) kind example
-  pub counter_may : May (counter_sentence assumed c) kind counter
-  pub verdict_is : verdict ≡ verdict_of_halves example counter

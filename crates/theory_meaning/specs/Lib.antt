@@ -14,11 +14,11 @@ pub mod ModelFault
 pub mod Edit
 pub mod Wide
 pub mod Half
+pub mod Question
+pub mod Region
 pub mod Deciding
 pub mod Verdict
-pub mod Question
 pub mod Model
-pub mod Asking
 pub mod Answer
 pub mod Printed
 pub mod Faults

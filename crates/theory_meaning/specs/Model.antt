@@ -1,15 +1,15 @@
 -- Points that meet the lines of a model with a claim, and what is right of answers and conditions.
 -- Source: the outcomes of TheoryGuru (Mulligan, Davenport, England, ICMS 2018), total differentiation;
 -- that divisors are never 0 is this project's own.
-use Rattle.std.specs.Prelude.{◌≡◌, ◌↔◌, ◌⊎◌, Bool, true, ◌&&◌, List, [], ◌∷◌, ◌++◌, Option, Some, None, IsTrue, Contains}
+use Rattle.std.specs.Prelude.{◌≡◌, ◌↔◌, ◌⊎◌, Bool, true, ◌&&◌, List, [], ◌∷◌, ◌++◌, Option, Some, None, IsTrue}
 use Rattle.theory_meaning.specs.declared.words.Verdict.{Verdict}
 use Rattle.theory_meaning.specs.declared.words.Verdict.TheVariants.{Undecided}
-use Rattle.theory_meaning.specs.Declarations.{symbols_of_claim}
 use Rattle.theory_meaning.specs.Divisors.{divisors_of_expr, divisors_of_claim}
-use Rattle.theory_meaning.specs.Fraction.{same, IsSame}
+use Rattle.theory_meaning.specs.Fraction.{same}
 use Rattle.theory_meaning.specs.Half.{Half, IsLeft, IsRightHalfOf}
-use Rattle.theory_meaning.specs.Point.{Name, Point, value_at}
+use Rattle.theory_meaning.specs.Point.{Name, Point}
 use Rattle.theory_meaning.specs.Question.{IsTrueAt}
+use Rattle.theory_meaning.specs.Region.{HoldsOnly, AgreeOn}
 use Rattle.theory_meaning.specs.Slope.{slope_of}
 use Rattle.theory_meaning.specs.Text.{Numbered}
 use Rattle.theory_meaning.specs.Tree.{Expr, Claim, Line, equation, assume}
@@ -61,12 +61,8 @@ pub record IsRightAnswer (lines : List Numbered) (shift : Option Name) (c : Clai
   pub undecided : (verdict ≡ Undecided) ↔ (IsLeft example ⊎ IsLeft counter)
   pub verdict_right : IsRightVerdict (MeetsWith lines shift c) (IsTrueAt c) verdict
 
--- the two points give the same values to the names
-abbrev pub AgreeOn : List Name → Point → Point → Type 0
-AgreeOn names p q = (x : Name) → Contains names x → IsSame (value_at p x) (value_at q x)
-
 -- a condition on names: it is true exactly where each point with these values that meets the model makes the claim true
 pub record IsRightCondition (lines : List Numbered) (shift : Option Name) (c : Claim) (names : List Name) (condition : Claim) : Type 0 where
-  pub names_only : (x : Name) → Contains (symbols_of_claim condition) x → Contains names x
+  pub names_only : HoldsOnly names condition
   pub right : (p : Point) →
       IsTrueAt condition p ↔ ((q : Point) → AgreeOn names p q → MeetsWith lines shift c q → IsTrueAt c q)

@@ -1,4 +1,3 @@
-ghost use Rattle.theory_meaning.specs.Asking.{SentencesAskOfTheModel};
 ghost use Rattle.theory_meaning.specs.Answer.{RightHalvesGiveTheRightVerdict, RightHalvesGiveTheRightAnswer, OneVerdictIsRight};
 
 /// Where both halves are right, the verdict of the table is right.
@@ -14,9 +13,4 @@ pub fn right_halves_give_the_right_answer()
 /// At most one verdict that leaves nothing undecided is right.
 pub fn one_verdict_is_right()
     ensures { OneVerdictIsRight }
-{}
-
-/// In a model without equations the sentences of a claim ask for its examples and counterexamples.
-pub fn sentences_ask_of_the_model()
-    ensures { SentencesAskOfTheModel }
 {}

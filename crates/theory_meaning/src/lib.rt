@@ -20,7 +20,6 @@ pub use laws::{
 };
 pub use laws_answers::{
     one_verdict_is_right, right_halves_give_the_right_answer, right_halves_give_the_right_verdict,
-    sentences_ask_of_the_model,
 };
 pub use laws_fractions::{
     operations_respect_sameness, order_has_no_gaps, order_is_total, order_respects_sameness,

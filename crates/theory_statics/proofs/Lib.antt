@@ -1,3 +1,4 @@
 pub mod NumberLemmas
 pub mod SlopeLemmas
 pub mod SentenceLemmas
+pub mod ReadyLemmas

@@ -1,11 +1,13 @@
 -- The two sentences of the claim under a label: what is written, and where each is met.
-use Rattle.std.specs.Prelude.{◌≡◌, ◌↔◌, List, Option, IfSome}
+use Rattle.std.specs.Prelude.{◌≡◌, ◌↔◌, ◌≤◌, List, length, Option, IfSome}
 use Rattle.std.specs.Borrow.{Bor}
 use Rattle.theory_meaning.specs.Model.{IsExample, IsCounter}
-use Rattle.theory_meaning.specs.Point.{Name, Point}
+use Rattle.theory_meaning.specs.ModelFault.{most_symbols}
+use Rattle.theory_meaning.specs.Point.{Name, Point, AreDistinct}
 use Rattle.theory_meaning.specs.Text.{Numbered}
 use Rattle.theory_meaning.specs.Tree as plain
 use Rattle.theory_meaning.specs.Truth.{Meets}
+use Rattle.theory_derivative.specs.Meaning.{HoldOnly}
 use Rattle.theory_derivative.specs.Sentence.{claim_in, example_of, counter_of}
 use Rattle.theory_syntax.specs.declared.claim.Claim.{Claim}
 use Rattle.theory_syntax.specs.declared.claim.Sentence.{Sentence}
@@ -37,3 +39,9 @@ pub record BothList (symbols : List Name) (both : Sentence × Sentence) : Type 0
 pub record AreMetExactly (lines : List Numbered) (shift : Option Name) (c : plain.Claim) (both : Sentence × Sentence) : Type 0 where
   pub example : (p : Point) → Meets (conjuncts_of both.0) p ↔ IsExample lines shift c p
   pub counter : (p : Point) → Meets (conjuncts_of both.1) p ↔ IsCounter lines shift c p
+
+-- what deciding wants of a sentence: few symbols, each listed once, and no others in the conjuncts
+pub record IsReady (s : Sentence) : Type 0 where
+  pub few : length s.symbols ≤ most_symbols
+  pub distinct : AreDistinct s.symbols
+  pub listed : HoldOnly s.symbols (conjuncts_of s)

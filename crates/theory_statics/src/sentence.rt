@@ -2,7 +2,7 @@ ghost use Rattle.std.specs.Prelude.{◌≡◌, [], ◌∷◌, ◌++◌, IfOk, is
 ghost use Rattle.theory_meaning.specs.Declarations.{listed_symbols};
 ghost use Rattle.theory_derivative.specs.Sentence.{claim_at, claim_in};
 ghost use Rattle.theory_syntax.specs.Plain.{claim_of, claims_of, line_of, lines_of};
-ghost use Rattle.theory_statics.specs.Asked.{asked_of, conjuncts_of, OfClaim, AreWritten, BothList, AreMetExactly};
+ghost use Rattle.theory_statics.specs.Asked.{asked_of, conjuncts_of, OfClaim, AreWritten, BothList, AreMetExactly, IsReady};
 
 use crate::before::asked_before;
 use std::alloc::Global;
@@ -24,6 +24,9 @@ pub fn sentences(
     // At every point, both ways.
     ensures met { IfOk result (λ both. OfClaim (lines_of model.now) claim.now
         (λ shift c. AreMetExactly (lines_of model.now) shift c both)) }
+
+    // Each may be given to a decider.
+    ensures ready { IfOk result (λ both. IsReady both.0 × IsReady both.1) }
 {
     let lines = text_of(model).as_slice();
     let names = symbols(alloc, model, claim)?;
