@@ -20,3 +20,4 @@ pub use claims::claim_of;
 pub use fault::LowerFault;
 pub use listing::is_listed;
 pub use lowering::lower;
+pub use quotients::place;

@@ -1,5 +1,5 @@
 -- The candidates symbol by symbol, and that they are within the bounds of a policy.
-use Rattle.std.proofs.Common.{◌≡◌, ℕ, zero, suc, ◌+◌, ◌<◌, ◌≤◌, true, false, Option, Some, None, List, [], ◌∷◌, ◌++◌, length, length-append, map, refl, sym, ap, ◌∙◌, subst, arith}
+use Rattle.std.proofs.Common.{◌≡◌, ℕ, zero, suc, ◌+◌, ◌<◌, ◌≤◌, Bool, true, false, Option, Some, None, List, [], ◌∷◌, ◌++◌, length, length-append, map, refl, sym, ap, ◌∙◌, subst, arith}
 use Rattle.std.specs.Prelude.{◌≢◌, ◌&&◌, not, filter, cond, if◌then◌else◌}
 use Rattle.std.specs.Option.{option_to_list}
 use Rattle.std.proofs.lemmas.List.{map-append}
@@ -21,7 +21,7 @@ use Rattle.theory_search.specs.Atoms.{row_of, rows_of}
 use Rattle.theory_formula.specs.FormulaAtoms.{atoms_of}
 use Rattle.theory_elimination.specs.TestPoint.{holds_symbol}
 use Rattle.theory_decision.specs.declared.candidate.Candidate.{Candidate}
-use Rattle.theory_decision.specs.Choice.{Symbols, occurs, is_curved, symbols_from, others, candidate_in, candidates, has_unsure_slope}
+use Rattle.theory_decision.specs.Choice.{Symbols, is_one_of, occurs, is_curved, symbols_from, others, candidate_in, candidates, has_unsure_slope}
 use Rattle.theory_search.specs.Asked.{IsWithin, AreWithin, IsAsked}
 use Rattle.theory_search.specs.Candidacy.{candidate_at}
 
@@ -33,45 +33,49 @@ symbols_more x (suc n) =
     let one : suc n + 1 ≡ suc (n + 1) = omega arith in
     ap (symbols_from x) one ∙ ap (λ ys. x ∷ ys) (symbols_more (suc x) n ∙ ap (λ y. symbols_from (suc x) n ++ y ∷ []) e)
 
--- the candidates among symbols
-abbrev pub among : Formula → Symbols → List Candidate
-among F xs = map (candidate_in F) (filter (λ x. not (is_curved F x)) (filter (λ x. not false && occurs F x) xs))
+module _ (keep : Symbols) (F : Formula) where
+  -- the symbol occurs, and isn't one to keep
+  abbrev other : ℕ → Bool
+  other x = not (is_one_of keep x) && occurs F x
 
--- the candidates among the first symbols
-abbrev pub below : Formula → ℕ → List Candidate
-below F n = among F (symbols_from 0 n)
+  -- the candidates among symbols
+  abbrev pub among : Symbols → List Candidate
+  among xs = map (candidate_in F) (filter (λ x. not (is_curved F x)) (filter other xs))
 
-among-append : (F : Formula) (xs ys : Symbols) → among F (xs ++ ys) ≡ among F xs ++ among F ys
-among-append F xs ys =
-    ap (λ zs. map (candidate_in F) (filter (λ x. not (is_curved F x)) zs)) (filter-append (λ x. not false && occurs F x) xs ys)
-    ∙ ap (map (candidate_in F))
-    (filter-append (λ x. not (is_curved F x)) (filter (λ x. not false && occurs F x) xs) (filter (λ x. not false && occurs F x) ys))
-    ∙ map-append (candidate_in F) (filter (λ x. not (is_curved F x)) (filter (λ x. not false && occurs F x) xs))
-    (filter (λ x. not (is_curved F x)) (filter (λ x. not false && occurs F x) ys))
+  -- the candidates among the first symbols
+  abbrev pub below : ℕ → List Candidate
+  below n = among (symbols_from 0 n)
 
-among_one : (F : Formula) (x : ℕ) → among F (x ∷ []) ≡ option_to_list (candidate_at F x)
-among_one F x =
-    elim (occurs F x)
-    as (λ a. map (candidate_in F) (filter (λ y. not (is_curved F y)) (cond (not false && a) (x ∷ []) []))
-    ≡ option_to_list (if a && not (is_curved F x) then Some (candidate_in F x) else None)) [
-      | true ↦
-          elim (is_curved F x)
-          as (λ b. map (candidate_in F) (cond (not b) (x ∷ []) []) ≡ option_to_list (if not b then Some (candidate_in F x) else None)) [
-            | true ↦ refl
-            | false ↦ refl
-          ]
-      | false ↦ refl
-    ]
+  among-append : (xs ys : Symbols) → among (xs ++ ys) ≡ among xs ++ among ys
+  among-append xs ys =
+      ap (λ zs. map (candidate_in F) (filter (λ x. not (is_curved F x)) zs)) (filter-append other xs ys)
+      ∙ ap (map (candidate_in F)) (filter-append (λ x. not (is_curved F x)) (filter other xs) (filter other ys))
+      ∙ map-append (candidate_in F) (filter (λ x. not (is_curved F x)) (filter other xs))
+      (filter (λ x. not (is_curved F x)) (filter other ys))
 
-pub below_more : (F : Formula) (n : ℕ) → below F (n + 1) ≡ below F n ++ option_to_list (candidate_at F n)
-below_more F n =
-    let e : 0 + n ≡ n = omega arith in
-    ap (among F) (symbols_more 0 n ∙ ap (λ y. symbols_from 0 n ++ y ∷ []) e) ∙ among-append F (symbols_from 0 n) (n ∷ [])
-    ∙ ap (λ cs. below F n ++ cs) (among_one F n)
+  among_one : (x : ℕ) → among (x ∷ []) ≡ option_to_list (candidate_at keep F x)
+  among_one x =
+      elim (other x)
+      as (λ a. map (candidate_in F) (filter (λ y. not (is_curved F y)) (cond a (x ∷ []) []))
+      ≡ option_to_list (if a && not (is_curved F x) then Some (candidate_in F x) else None)) [
+        | true ↦
+            elim (is_curved F x)
+            as (λ b. map (candidate_in F) (cond (not b) (x ∷ []) []) ≡ option_to_list (if not b then Some (candidate_in F x) else None)) [
+              | true ↦ refl
+              | false ↦ refl
+            ]
+        | false ↦ refl
+      ]
 
-pub below_all : (F : Formula) → below F 32 ≡ candidates [] F
-unfolding others
-below_all F = refl
+  pub below_more : (n : ℕ) → below (n + 1) ≡ below n ++ option_to_list (candidate_at keep F n)
+  below_more n =
+      let e : 0 + n ≡ n = omega arith in
+      ap among (symbols_more 0 n ∙ ap (λ y. symbols_from 0 n ++ y ∷ []) e) ∙ among-append (symbols_from 0 n) (n ∷ [])
+      ∙ ap (λ cs. below n ++ cs) (among_one n)
+
+  pub below_all : below 32 ≡ candidates keep F
+  unfolding others
+  below_all = refl
 
 -- they are within the bounds
 candidate_within : (F : Formula) (x : ℕ) → x < 32 → length (atoms_of F) ≤ 512 → IsWithin (candidate_in F x)
@@ -84,46 +88,50 @@ within_two : (cs ds : List Candidate) → AreWithin cs → AreWithin ds → AreW
 within_two [] ds h k = k
 within_two (c ∷ cs) ds h k = (h.0, within_two cs ds h.1 k)
 
-within_one : (F : Formula) (x : ℕ) → x < 32 → length (atoms_of F) ≤ 512 → AreWithin (option_to_list (candidate_at F x))
-within_one F x h few =
-    elim (occurs F x && not (is_curved F x)) as (λ b. AreWithin (option_to_list (if b then Some (candidate_in F x) else None))) [
-      | true ↦ (candidate_within F x h few, tt)
-      | false ↦ tt
-    ]
+module _ (keep : Symbols) (F : Formula) where
+  abbrev found_if : ℕ → Bool → Option Candidate
+  found_if x b = if b then Some (candidate_in F x) else None
 
-at_most_one : (F : Formula) (x : ℕ) → length (option_to_list (candidate_at F x)) ≤ 1
-at_most_one F x =
-    elim (occurs F x && not (is_curved F x)) as (λ b. length (option_to_list (if b then Some (candidate_in F x) else None)) ≤ 1) [
-      | true ↦ omega arith
-      | false ↦ omega arith
-    ]
+  within_one : (x : ℕ) → x < 32 → length (atoms_of F) ≤ 512 → AreWithin (option_to_list (candidate_at keep F x))
+  within_one x h few =
+      elim ((not (is_one_of keep x) && occurs F x) && not (is_curved F x)) as (λ b. AreWithin (option_to_list (found_if x b))) [
+        | true ↦ (candidate_within F x h few, tt)
+        | false ↦ tt
+      ]
 
--- what is known of the candidates so far
-pub record IsListed (F : Formula) (n : ℕ) (cs : List Candidate) : Type 0 where
-  pub written : cs ≡ below F n
-  pub few : length cs ≤ n
-  pub within : AreWithin cs
+  at_most_one : (x : ℕ) → length (option_to_list (candidate_at keep F x)) ≤ 1
+  at_most_one x =
+      elim ((not (is_one_of keep x) && occurs F x) && not (is_curved F x)) as (λ b. length (option_to_list (found_if x b)) ≤ 1) [
+        | true ↦ omega arith
+        | false ↦ omega arith
+      ]
 
-pub listed_none : (F : Formula) → IsListed F 0 []
-listed_none F = record { written = refl; few = omega arith; within = tt }
+  -- what is known of the candidates so far
+  pub record IsListed (n : ℕ) (cs : List Candidate) : Type 0 where
+    pub written : cs ≡ below keep F n
+    pub few : length cs ≤ n
+    pub within : AreWithin cs
 
-pub listed_more : (F : Formula) (n : ℕ) (cs ds : List Candidate) (found : Option Candidate) → n < 32 → length (atoms_of F) ≤ 512
-    → found ≡ candidate_at F n → ds ≡ cs ++ option_to_list found → IsListed F n cs → IsListed F (n + 1) ds
-listed_more F n cs ds found h few is grown before =
-    let same : ds ≡ cs ++ option_to_list (candidate_at F n) = grown ∙ ap (λ o. cs ++ option_to_list o) is in
-    let one = at_most_one F n in
-    let old = before.few in
-    record {
-      written = same ∙ ap (λ es. es ++ option_to_list (candidate_at F n)) before.written ∙ sym (below_more F n);
-      few = rw same (rw length-append (omega (arith, one, old)));
-      within = subst AreWithin (sym same) (within_two cs (option_to_list (candidate_at F n)) before.within (within_one F n h few));
-    }
+  pub listed_none : IsListed 0 []
+  listed_none = record { written = refl; few = omega arith; within = tt }
 
-pub listed_written : (F : Formula) (n : ℕ) (cs : List Candidate) → n ≡ 32 → IsListed F n cs → cs ≡ candidates [] F
-listed_written F n cs e h = h.written ∙ ap (below F) e ∙ below_all F
+  pub listed_more : (n : ℕ) (cs ds : List Candidate) (found : Option Candidate) → n < 32 → length (atoms_of F) ≤ 512
+      → found ≡ candidate_at keep F n → ds ≡ cs ++ option_to_list found → IsListed n cs → IsListed (n + 1) ds
+  listed_more n cs ds found h few is grown before =
+      let same : ds ≡ cs ++ option_to_list (candidate_at keep F n) = grown ∙ ap (λ o. cs ++ option_to_list o) is in
+      let one = at_most_one n in
+      let old = before.few in
+      record {
+        written = same ∙ ap (λ es. es ++ option_to_list (candidate_at keep F n)) before.written ∙ sym (below_more keep F n);
+        few = rw same (rw length-append (omega (arith, one, old)));
+        within = subst AreWithin (sym same) (within_two cs (option_to_list (candidate_at keep F n)) before.within (within_one n h few));
+      }
 
-pub listed_asked : (F : Formula) (n : ℕ) (cs : List Candidate) → n ≡ 32 → IsListed F n cs → cs ≢ [] → IsAsked cs
-listed_asked F n cs e h some = let old = h.few in record { some = some; few = omega (arith, e, old); within = h.within }
+  pub listed_written : (n : ℕ) (cs : List Candidate) → n ≡ 32 → IsListed n cs → cs ≡ candidates keep F
+  listed_written n cs e h = h.written ∙ ap (below keep F) e ∙ below_all keep F
+
+  pub listed_asked : (n : ℕ) (cs : List Candidate) → n ≡ 32 → IsListed n cs → cs ≢ [] → IsAsked cs
+  listed_asked n cs e h some = let old = h.few in record { some = some; few = omega (arith, e, old); within = h.within }
 
 -- the members of a conjunction
 pub own_members : (F : source.Formula) (Fs : Vec source.Formula Global) (xs : List source.Formula) → F ≡ made.And Fs → xs ≡ Fs.items

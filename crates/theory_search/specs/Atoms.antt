@@ -1,5 +1,5 @@
 -- The atoms of a formula as a list of the program.
-use Rattle.std.specs.Prelude.{◌≡◌, ℕ, nat_lt, false, List, ◌++◌, map}
+use Rattle.std.specs.Prelude.{◌≡◌, ℕ, Bool, nat_lt, not, ◌&&◌, false, List, ◌++◌, map}
 use Rattle.std.specs.List.{list_any}
 use Rattle.std.specs.Borrow.{Bor}
 use Rattle.theory_formula.specs.declared.signs.Signs.{Signs}
@@ -8,6 +8,8 @@ use Rattle.theory_formula.specs.Formula.{Formula, Formulas, EachAtomOfAll}
 use Rattle.theory_formula.specs.FormulaAtoms.{atoms_of, atoms_of_all}
 use Rattle.theory_formula.specs.SignCondition.{IsAtomPolynomial}
 use Rattle.theory_formula.specs.Symbols.{IsProper}
+use Rattle.theory_elimination.specs.TestPoint.{holds_symbol}
+use Rattle.theory_decision.specs.Choice.{Symbols, is_one_of}
 use Rattle.theory_signs.specs.declared.atom.Atom.{Atom}
 
 -- an atom as a polynomial with its signs
@@ -17,6 +19,10 @@ row_of a = (a.now.poly, a.now.signs)
 -- atoms in their order
 abbrev pub rows_of : List (Bor Atom) → List (List Monomial × Signs)
 rows_of = map row_of
+
+-- some atom holds the symbol, and it isn't one to keep
+abbrev pub is_other : Symbols → List (List Monomial × Signs) → ℕ → Bool
+is_other keep rows x = not (is_one_of keep x) && list_any (λ a. holds_symbol x a.0) rows
 
 -- the degree of the symbol is at most 1 in each
 abbrev pub IsStraight : ℕ → List (List Monomial × Signs) → Type 0

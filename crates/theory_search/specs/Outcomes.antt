@@ -1,20 +1,25 @@
 -- The plain outcomes that those of the program stand for.
-use Rattle.std.specs.Prelude.{ℕ, List, [], ◌∷◌, map, flat_map, Option, None, Some}
+use Rattle.std.specs.Prelude.{ℕ, List, [], ◌∷◌, map, flat_map, if◌then◌else◌, Option, None, Some}
 use Rattle.std.specs.Borrow.{Bor}
 use Rattle.theory_signs.specs.declared.atom.Atom.{Atom}
 use Rattle.theory_formula.specs.declared.signs.Signs.{Signs}
 use Rattle.theory_polynomial.specs.Polynomial.{Monomial}
-use Rattle.theory_decision.specs.Choice.{symbols_from}
+use Rattle.theory_decision.specs.Choice.{Symbols, symbols_from}
 use Rattle.theory_decision.specs.Finding as plain
 use Rattle.theory_decision.specs.Search as plain_run
 use Rattle.theory_decision.specs.Outcomes as plain_outcome
 use Rattle.theory_signs.specs.Plain.{formula_of}
+use Rattle.theory_signs.specs.declared.formula.Formula.{Formula}
+use Rattle.theory_formula.specs.Formula as plain_formula
 use Rattle.theory_signs.specs.declared.path.PathStep.{PathStep}
 use Rattle.theory_search.specs.declared.outcome.StuckAtom.{StuckAtom}
 use Rattle.theory_search.specs.declared.outcome.Failure.{Failure}
 use Rattle.theory_search.specs.declared.outcome.Failure.TheVariants.{Stuck, Wide, Large, Budget, ManyLeaves}
 use Rattle.theory_search.specs.declared.outcome.Outcome.{Outcome}
 use Rattle.theory_search.specs.declared.outcome.Outcome.TheVariants.{Hit, Empty, Failed}
+use Rattle.theory_search.specs.declared.outcome.Leaves.{Leaves}
+use Rattle.theory_search.specs.declared.outcome.Leaves.TheVariants as found
+use Rattle.theory_search.specs.Atoms.{is_other}
 
 -- an atom that keeps its symbol from being eliminated
 abbrev pub stuck_of : StuckAtom → plain.StuckAtom
@@ -25,9 +30,13 @@ abbrev pub stuck_by : ℕ → Option (Bor Atom) → List plain.StuckAtom
 stuck_by x None = []
 stuck_by x (Some a) = record { symbol = x; poly = a.now.poly; signs = a.now.signs } ∷ []
 
--- the first atoms in which the degrees of the first symbols are above 1
-abbrev pub stuck_below : List (List Monomial × Signs) → ℕ → List plain.StuckAtom
-stuck_below rows n = flat_map (λ x. plain.stuck_at x rows) (symbols_from 0 n)
+-- the first atom in which the degree of the symbol is above 1, where it isn't one to keep
+abbrev pub stuck_other : Symbols → List (List Monomial × Signs) → ℕ → List plain.StuckAtom
+stuck_other keep rows x = if is_other keep rows x then plain.stuck_at x rows else []
+
+-- the same for each of the first symbols
+abbrev pub stuck_below : Symbols → List (List Monomial × Signs) → ℕ → List plain.StuckAtom
+stuck_below keep rows n = flat_map (stuck_other keep rows) (symbols_from 0 n)
 
 -- a failure
 abbrev pub failure_of : Failure → plain.Failure
@@ -50,3 +59,13 @@ abbrev pub outcome_of : Outcome → plain_outcome.Outcome
 outcome_of (Hit path) = plain_outcome.hits_by (path_of path.items)
 outcome_of Empty = plain_outcome.empty
 outcome_of (Failed failure) = plain_outcome.failed_by (failure_of failure)
+
+-- leaves in their order
+abbrev pub formulas_of : List Formula → List plain_formula.Formula
+formulas_of = map formula_of
+
+-- what a search for leaves gives
+abbrev pub plain_leaves : Leaves → plain_outcome.Leaves
+plain_leaves (found.All leaves) = plain_outcome.all_of (formulas_of leaves.items)
+plain_leaves found.Everywhere = plain_outcome.true_everywhere
+plain_leaves (found.Failed failure) = plain_outcome.failed_before (failure_of failure)

@@ -7,9 +7,9 @@ ghost use Rattle.theory_formula.specs.FormulaAtoms.{atoms_of};
 ghost use Rattle.theory_formula.specs.Symbols.{IsProper};
 ghost use Rattle.theory_elimination.specs.TestPoint.{holds_symbol, is_constant};
 ghost use Rattle.theory_polynomial.specs.Polynomial.{IsLinearIn, degree_in};
-ghost use Rattle.theory_decision.specs.Choice.{has_unsure_slope};
+ghost use Rattle.theory_decision.specs.Choice.{has_unsure_slope, is_one_of, symbols_from};
 ghost use Rattle.theory_signs.specs.Plain.{formula_of};
-ghost use Rattle.theory_search.specs.Atoms.{rows_of, IsStraight, AddsAtoms, AddsAtomsOfAll};
+ghost use Rattle.theory_search.specs.Atoms.{rows_of, is_other, IsStraight, AddsAtoms, AddsAtomsOfAll};
 
 use std::alloc::Global;
 use theory_points::NoMemory;
@@ -59,6 +59,32 @@ fn add_all_atoms<'a>(formulas: &'a [Formula], found: &mut Vec<&'a Atom>) -> Resu
         add_atoms(formula, found)?;
     }
     Ok(())
+}
+
+/// Whether some symbol occurs that isn't kept.
+pub fn has_others(keep: &[u8], atoms: &[&Atom]) -> bool
+    ensures { result ≡ list_any (is_other keep.now (rows_of atoms.now)) (symbols_from 0 32) }
+{
+    for x in 0..32 {
+        if is_other(keep, x, atoms) {
+            return true;
+        }
+    }
+    false
+}
+
+/// Whether the symbol occurs and isn't kept.
+pub fn is_other(keep: &[u8], x: u8, atoms: &[&Atom]) -> bool
+    requires { x < 32 }
+    ensures { result ≡ is_other keep.now (rows_of atoms.now) x }
+{
+    !is_kept(keep, x) && occurs(x, atoms)
+}
+
+fn is_kept(keep: &[u8], x: u8) -> bool
+    ensures { result ≡ is_one_of keep.now x }
+{
+    keep.contains(&x)
 }
 
 /// Whether some atom holds the symbol.

@@ -14,7 +14,7 @@ ghost use Rattle.theory_search.specs.Asked.{IsAsked};
 ghost use Rattle.theory_search.specs.Atoms.{rows_of, IsStraight};
 ghost use Rattle.theory_search.specs.Candidacy.{candidate_at};
 
-use crate::atoms::{atoms, holding, is_constant, is_curved, occurs, unsure};
+use crate::atoms::{atoms, holding, is_constant, is_curved, is_other, unsure};
 use std::alloc::Global;
 use theory_decision::Candidate;
 use theory_points::NoMemory;
@@ -32,25 +32,30 @@ pub fn candidates(alloc: Global, formula: &Formula) -> Result<Candidates, NoMemo
     ensures asked { IfOk result (λ cs. cs.items ≢ [] → IsAsked cs.items) }
 {
     let found = atoms(alloc, formula)?;
-    listed(alloc, formula, &found)
+    listed(alloc, &[], formula, &found)
 }
 
-/// The same, by the atoms of the formula.
-pub fn listed(alloc: Global, formula: &Formula, atoms: &[&Atom]) -> Result<Candidates, NoMemory>
+/// The same but for kept symbols, by the atoms of the formula.
+pub fn listed(
+    alloc: Global,
+    keep: &[u8],
+    formula: &Formula,
+    atoms: &[&Atom],
+) -> Result<Candidates, NoMemory>
     requires few { length atoms.now ≤ 512 }
     requires own { rows_of atoms.now ≡ atoms_of (formula_of formula.now) }
     ensures written { IfOk result (λ cs.
-        cs.items ≡ written.candidates [] (formula_of formula.now)) }
+        cs.items ≡ written.candidates keep.now (formula_of formula.now)) }
     ensures asked { IfOk result (λ cs. cs.items ≢ [] → IsAsked cs.items) }
 {
     let mut all = Vec::new(alloc);
     for x in 0..32 {
-        keep(&mut all, candidate(alloc, x, formula, atoms)?)?;
+        add(&mut all, candidate(alloc, keep, x, formula, atoms)?)?;
     }
     Ok(all)
 }
 
-fn keep(all: &mut Candidates, found: Option<Candidate>) -> Result<(), NoMemory>
+fn add(all: &mut Candidates, found: Option<Candidate>) -> Result<(), NoMemory>
     ensures { OnOk result (all.new.items ≡ all.old.items ++ option_to_list found) }
 {
     match found {
@@ -62,9 +67,10 @@ fn keep(all: &mut Candidates, found: Option<Candidate>) -> Result<(), NoMemory>
     }
 }
 
-/// The symbol as a candidate, if it occurs and is linear in every atom.
+/// The symbol as a candidate, if it occurs, isn't kept and is linear in every atom.
 fn candidate(
     alloc: Global,
+    keep: &[u8],
     x: u8,
     formula: &Formula,
     atoms: &[&Atom],
@@ -72,9 +78,9 @@ fn candidate(
     requires symbol { x < 32 }
     requires few { length atoms.now ≤ 512 }
     requires own { rows_of atoms.now ≡ atoms_of (formula_of formula.now) }
-    ensures { IfOk result (λ found. found ≡ candidate_at (formula_of formula.now) x) }
+    ensures { IfOk result (λ found. found ≡ candidate_at keep.now (formula_of formula.now) x) }
 {
-    if !occurs(x, atoms) || is_curved(x, atoms) {
+    if !is_other(keep, x, atoms) || is_curved(x, atoms) {
         return Ok(None);
     }
     let unit = is_unit(alloc, x, formula)?;

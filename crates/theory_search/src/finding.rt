@@ -1,19 +1,18 @@
 ghost use Rattle.std.specs.Prelude.{◌≡◌, ◌≢◌, ◌<◌, ◌≤◌, ◌++◌, [], ◌∷◌, IfOk, IfSome, OnOk, map};
-ghost use Rattle.theory_formula.specs.Formula as tree;
 ghost use Rattle.theory_decision.specs.Choice as written;
 ghost use Rattle.theory_decision.specs.Finding.{finding, finding_in};
 ghost use Rattle.theory_decision.specs.Finding as plain;
 ghost use Rattle.theory_signs.specs.Plain.{formula_of};
 ghost use Rattle.theory_search.specs.Asked.{IsAsked};
 ghost use Rattle.theory_search.specs.Atoms.{rows_of};
-ghost use Rattle.theory_search.specs.Outcomes.{stuck_of, stuck_by, stuck_below};
-ghost use Rattle.theory_search.specs.Runs.{node_of, finding_of, IsReady, IsSimple, IsChosen};
+ghost use Rattle.theory_search.specs.Outcomes.{stuck_of, stuck_by, stuck_other, stuck_below};
+ghost use Rattle.theory_search.specs.Runs.{node_of, finding_of, IsReady, IsChosen};
 
-use crate::atoms::atoms;
+use crate::atoms::{atoms, has_others, is_other};
 use crate::candidacy::{Candidates, listed};
 use crate::outcome::{Failure, StuckAtom, StuckAtoms};
 use crate::policy::Policy;
-use crate::simplified::simplified;
+use crate::simplifying::simplified;
 use std::alloc::Global;
 use theory_points::NoMemory;
 use theory_signs::{Atom, Formula};
@@ -31,37 +30,51 @@ pub enum Found {
     Nowhere,
     Everywhere,
     Fails(Failure),
+    /// In the simplified formula only kept symbols occur.
+    Leaf(Formula),
     /// The symbol is eliminated from the simplified formula.
     Eliminates(u8, Formula),
 }
 
 /// What is found at a node of this depth.
-pub fn finding(alloc: Global, policy: &Policy, depth: u32, node: &Node) -> Result<Found, NoMemory>
+pub fn finding(
+    alloc: Global,
+    policy: &Policy,
+    keep: &[u8],
+    depth: u32,
+    node: &Node,
+) -> Result<Found, NoMemory>
     ensures written { IfOk result (λ f.
-        finding_of f ≡ finding [] policy.now.kind depth (node_of node.now)) }
+        finding_of f ≡ finding keep.now policy.now.kind depth (node_of node.now)) }
     ensures ready { IfOk result (IsReady depth) }
 {
     match node {
         Node::TooWide => Ok(Found::Fails(Failure::Wide)),
         Node::Reached(formula) => {
             let simple = simplified(alloc, policy.kind, formula)?;
-            at_simple(alloc, policy, depth, simple)
+            at_simple(alloc, policy, keep, depth, simple)
         }
     }
 }
 
 /// What is found at a simplified formula.
-fn at_simple(alloc: Global, policy: &Policy, depth: u32, simple: Formula) -> Result<Found, NoMemory>
-    requires { IsSimple policy.now.kind (formula_of simple) }
+fn at_simple(
+    alloc: Global,
+    policy: &Policy,
+    keep: &[u8],
+    depth: u32,
+    simple: Formula,
+) -> Result<Found, NoMemory>
     ensures written { IfOk result (λ f.
-        finding_of f ≡ finding_in [] policy.now.kind depth (formula_of simple)) }
+        finding_of f ≡ finding_in keep.now policy.now.kind depth (formula_of simple)) }
     ensures ready { IfOk result (IsReady depth) }
 {
     match simple {
         Formula::True => Ok(Found::Everywhere),
         Formula::False => Ok(Found::Nowhere),
-        open => match chosen(alloc, policy, depth, &open)? {
+        open => match chosen(alloc, policy, keep, depth, &open)? {
             Choice::Symbol(x) => Ok(Found::Eliminates(x, open)),
+            Choice::KeptAlone => Ok(Found::Leaf(open)),
             Choice::Fails(failure) => Ok(Found::Fails(failure)),
         },
     }
@@ -71,24 +84,32 @@ fn at_simple(alloc: Global, policy: &Policy, depth: u32, simple: Formula) -> Res
 #[derive(Drop)]
 pub enum Choice {
     Symbol(u8),
+    /// Only kept symbols occur.
+    KeptAlone,
     Fails(Failure),
 }
 
-fn chosen(alloc: Global, policy: &Policy, depth: u32, formula: &Formula) -> Result<Choice, NoMemory>
-    requires simple { IsSimple policy.now.kind (formula_of formula.now) }
-    requires not_always { formula_of formula.now ≢ tree.always }
-    requires not_never { formula_of formula.now ≢ tree.never }
+fn chosen(
+    alloc: Global,
+    policy: &Policy,
+    keep: &[u8],
+    depth: u32,
+    formula: &Formula,
+) -> Result<Choice, NoMemory>
     ensures { IfOk result
-        (IsChosen policy.now.kind depth (formula_of formula.now)) }
+        (IsChosen keep.now policy.now.kind depth (formula_of formula.now)) }
 {
     let found = atoms(alloc, formula)?;
     if depth > 64 || found.len() > 512 {
         return Ok(Choice::Fails(Failure::Large));
     }
-    let all = listed(alloc, formula, &found)?;
+    if !has_others(keep, &found) {
+        return Ok(Choice::KeptAlone);
+    }
+    let all = listed(alloc, keep, formula, &found)?;
     match taken(policy, &all) {
         Some(x) => Ok(Choice::Symbol(x)),
-        None => Ok(Choice::Fails(Failure::Stuck(stuck_atoms(alloc, &found)?))),
+        None => Ok(Choice::Fails(Failure::Stuck(stuck_atoms(alloc, keep, &found)?))),
     }
 }
 
@@ -105,15 +126,33 @@ fn taken(policy: &Policy, all: &Candidates) -> Option<u8>
     Some(all[place].symbol)
 }
 
-/// For each symbol that occurs the first atom in which its degree is above 1.
-fn stuck_atoms(alloc: Global, atoms: &[&Atom]) -> Result<StuckAtoms, NoMemory>
-    ensures { IfOk result (λ found. map stuck_of found.items ≡ stuck_below (rows_of atoms.now) 32) }
+/// For each symbol that occurs and isn't kept the first atom in which its degree is above 1.
+fn stuck_atoms(alloc: Global, keep: &[u8], atoms: &[&Atom]) -> Result<StuckAtoms, NoMemory>
+    ensures { IfOk result (λ found.
+        map stuck_of found.items ≡ stuck_below keep.now (rows_of atoms.now) 32) }
 {
     let mut all = Vec::new(alloc);
     for x in 0..32 {
-        add_stuck(alloc, x, atoms, &mut all)?;
+        add_other(alloc, keep, x, atoms, &mut all)?;
     }
     Ok(all)
+}
+
+fn add_other(
+    alloc: Global,
+    keep: &[u8],
+    x: u8,
+    atoms: &[&Atom],
+    all: &mut StuckAtoms,
+) -> Result<(), NoMemory>
+    requires { x < 32 }
+    ensures { OnOk result (map stuck_of all.new.items
+        ≡ map stuck_of all.old.items ++ stuck_other keep.now (rows_of atoms.now) x) }
+{
+    if is_other(keep, x, atoms) {
+        add_stuck(alloc, x, atoms, all)?;
+    }
+    Ok(())
 }
 
 fn add_stuck(alloc: Global, x: u8, atoms: &[&Atom], all: &mut StuckAtoms) -> Result<(), NoMemory>
@@ -122,7 +161,7 @@ fn add_stuck(alloc: Global, x: u8, atoms: &[&Atom], all: &mut StuckAtoms) -> Res
         ≡ map stuck_of all.old.items ++ plain.stuck_at x (rows_of atoms.now)) }
 {
     match first_curved(x, atoms) {
-        Some(atom) => keep(all, x, atom.with_signs(alloc, atom.signs())?),
+        Some(atom) => push_stuck(all, x, atom.with_signs(alloc, atom.signs())?),
         None => Ok(()),
     }
 }
@@ -139,7 +178,7 @@ fn first_curved<'a>(x: u8, atoms: &[&'a Atom]) -> Option<&'a Atom>
     None
 }
 
-fn keep(all: &mut StuckAtoms, symbol: u8, atom: Atom) -> Result<(), NoMemory>
+fn push_stuck(all: &mut StuckAtoms, symbol: u8, atom: Atom) -> Result<(), NoMemory>
     ensures { OnOk result (map stuck_of all.new.items
         ≡ map stuck_of all.old.items ++ record {
           symbol = symbol;

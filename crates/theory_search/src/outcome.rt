@@ -1,4 +1,4 @@
-use theory_signs::{Atom, Path};
+use theory_signs::{Atom, Formulas, Path};
 
 /// The first atom in which the degree of a symbol is above 1.
 #[derive(Drop)]
@@ -7,13 +7,13 @@ pub struct StuckAtom {
     pub atom: Atom,
 }
 
-/// One for each symbol that occurs, upwards.
+/// One for each symbol that occurs and isn't kept, upwards.
 pub type StuckAtoms = Vec<StuckAtom>;
 
 /// Why a search fails.
 #[derive(Drop)]
 pub enum Failure {
-    /// No symbol can be eliminated from a formula.
+    /// None of the symbols that aren't kept can be eliminated from a formula.
     Stuck(StuckAtoms),
     /// A cross product of a branch passes a limit.
     Wide,
@@ -33,5 +33,16 @@ pub enum Outcome {
     /// No point does.
     Empty,
     /// The first failure that was met, where nothing was hit.
+    Failed(Failure),
+}
+
+/// What a search for leaves gives, formulas in which only kept symbols occur.
+#[derive(Drop)]
+pub enum Leaves {
+    /// Some values of the other symbols make the formula true exactly where some leaf is.
+    All(Formulas),
+    /// For all values of the kept symbols some values of the others do.
+    Everywhere,
+    /// The first failure that was met, where no formula was true everywhere.
     Failed(Failure),
 }

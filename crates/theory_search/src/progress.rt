@@ -1,10 +1,14 @@
-ghost use Rattle.std.specs.Prelude.{◌≡◌, ◌<◌};
+ghost use Rattle.std.specs.Prelude.{◌≡◌, ◌<◌, IfOk};
 ghost use Rattle.theory_decision.specs.Search.{counted, met};
 ghost use Rattle.theory_search.specs.Outcomes.{failure_of};
-ghost use Rattle.theory_search.specs.Runs.{progress_of};
+ghost use Rattle.theory_search.specs.Runs.{progress_of, KeepsLeaf};
+ghost use Rattle.theory_signs.specs.Plain.{formula_of};
 
+use crate::leaf_list::LeafList;
 use crate::outcome::Failure;
-use theory_signs::Path;
+use std::alloc::Global;
+use theory_points::NoMemory;
+use theory_signs::{Formula, Path};
 
 /// How far a run has come.
 #[derive(Drop)]
@@ -13,6 +17,7 @@ pub struct Progress {
     pub visited: u32,
     /// The first failure that was met.
     pub failure: Option<Failure>,
+    pub leaves: LeafList,
 }
 
 /// What comes of a visit.
@@ -21,8 +26,8 @@ pub enum Run {
     GoesOn,
     /// The path from here, with its last step first.
     Hit(Path),
-    /// The budget is spent.
-    Over,
+    /// The budget is spent, or there are too many leaves.
+    Over(Failure),
 }
 
 impl Progress {
@@ -43,5 +48,18 @@ impl Progress {
         if self.failure.is_none() {
             self.failure = Some(failure);
         }
+    }
+
+    /// One more node, with a leaf at it, unless there would be too many leaves.
+    pub fn keep(&mut self, alloc: Global, leaf: Formula) -> Result<bool, NoMemory>
+        requires { self.old.visited < 20000 }
+        ensures { IfOk result
+            (KeepsLeaf (formula_of leaf) (progress_of self.old) (progress_of self.new)) }
+    {
+        if !self.leaves.add(alloc, leaf)? {
+            return Ok(false);
+        }
+        self.visited += 1;
+        Ok(true)
     }
 }

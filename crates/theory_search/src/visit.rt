@@ -1,4 +1,4 @@
-ghost use Rattle.std.specs.Prelude.{◌≡◌, ◌<◌, ◌≤◌, [], length, reverse, IfOk};
+ghost use Rattle.std.specs.Prelude.{◌≡◌, ◌<◌, ◌≤◌, length, reverse, IfOk};
 ghost use Rattle.theory_elimination.specs.Elimination.{IsLinear};
 ghost use Rattle.theory_decision.specs.Finding.{IsNode};
 ghost use Rattle.theory_decision.specs.Search.{Visit};
@@ -6,11 +6,12 @@ ghost use Rattle.theory_decision.specs.Search as plain_run;
 ghost use Rattle.theory_signs.specs.Plain.{formula_of};
 ghost use Rattle.theory_subst.specs.Plans.{ArePlansOf, plans_of};
 ghost use Rattle.theory_search.specs.declared.progress.Progress.{Progress};
-ghost use Rattle.theory_search.specs.Entered.{IsEntered};
+ghost use Rattle.theory_search.specs.Entered.{IsEntered, IsKept};
 ghost use Rattle.theory_search.specs.Outcomes.{path_of};
 ghost use Rattle.theory_search.specs.Runs.{node_of, progress_of, run_of};
 
 use crate::finding::{Found, Node, finding};
+use crate::outcome::Failure;
 use crate::policy::Policy;
 use crate::progress::{Progress, Run};
 use std::alloc::Global;
@@ -22,26 +23,27 @@ use theory_subst::{Plans, branch_at, branch_plans};
 pub fn visit(
     alloc: Global,
     policy: &Policy,
+    keep: &[u8],
     depth: u32,
     node: &Node,
     progress: &mut Progress,
 ) -> Result<Run, NoMemory>
     requires { depth ≤ 65 }
-    ensures { IfOk result (λ r. Visit [] policy.now.kind depth (node_of node.now)
+    ensures { IfOk result (λ r. Visit keep.now policy.now.kind depth (node_of node.now)
         (progress_of progress.old) (run_of r progress.new)) }
 {
-    match enter(alloc, policy, depth, node, progress)? {
+    match enter(alloc, policy, keep, depth, node, progress)? {
         Entered::GoesOn => Ok(Run::GoesOn),
         Entered::Hit => Ok(Run::Hit(Vec::new(alloc))),
-        Entered::Over => Ok(Run::Over),
+        Entered::Over(failure) => Ok(Run::Over(failure)),
         Entered::Below(x, simple) => {
             let plans = branch_plans(alloc, x, &simple)?;
             for k in 0..plans.len() {
                 let branch = branch_node(alloc, x, &simple, &plans, k)?;
-                match visit(alloc, policy, depth + 1, &branch, progress)? {
+                match visit(alloc, policy, keep, depth + 1, &branch, progress)? {
                     Run::GoesOn => {}
                     Run::Hit(path) => return hit_below(x, simple, path),
-                    Run::Over => return Ok(Run::Over),
+                    Run::Over(failure) => return Ok(Run::Over(failure)),
                 }
             }
             Ok(Run::GoesOn)
@@ -54,7 +56,8 @@ pub fn visit(
 pub enum Entered {
     GoesOn,
     Hit,
-    Over,
+    /// The run is over, by this failure or one that was met before.
+    Over(Failure),
     /// The branches of a formula in a symbol are to be visited.
     Below(u8, Formula),
 }
@@ -62,17 +65,18 @@ pub enum Entered {
 fn enter(
     alloc: Global,
     policy: &Policy,
+    keep: &[u8],
     depth: u32,
     node: &Node,
     progress: &mut Progress,
 ) -> Result<Entered, NoMemory>
-    ensures { IfOk result (IsEntered policy.now.kind depth (node_of node.now)
+    ensures { IfOk result (IsEntered keep.now policy.now.kind depth (node_of node.now)
         (progress_of progress.old) (progress_of progress.new)) }
 {
     if progress.visited >= 20000 {
-        return Ok(Entered::Over);
+        return Ok(Entered::Over(Failure::Budget));
     }
-    match finding(alloc, policy, depth, node)? {
+    match finding(alloc, policy, keep, depth, node)? {
         Found::Nowhere => {
             progress.count();
             Ok(Entered::GoesOn)
@@ -82,10 +86,24 @@ fn enter(
             progress.meet(failure);
             Ok(Entered::GoesOn)
         }
+        Found::Leaf(leaf) => keep_leaf(alloc, leaf, progress),
         Found::Eliminates(x, simple) => {
             progress.count();
             Ok(Entered::Below(x, simple))
         }
+    }
+}
+
+/// A leaf is kept, or the run is over.
+fn keep_leaf(alloc: Global, leaf: Formula, progress: &mut Progress) -> Result<Entered, NoMemory>
+    requires { progress.old.visited < 20000 }
+    ensures { IfOk result (IsKept (formula_of leaf)
+        (progress_of progress.old) (progress_of progress.new)) }
+{
+    if progress.keep(alloc, leaf)? {
+        Ok(Entered::GoesOn)
+    } else {
+        Ok(Entered::Over(Failure::ManyLeaves))
     }
 }
 

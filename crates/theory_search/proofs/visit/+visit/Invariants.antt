@@ -1,4 +1,4 @@
-use Rattle.std.proofs.Common.{◌≡◌, ◌+◌, ◌-◌, []}
+use Rattle.std.proofs.Common.{◌≡◌, ◌+◌, ◌-◌}
 use Rattle.theory_decision.specs.Search.{Run, Visits}
 use Rattle.theory_signs.specs.Plain.{formula_of}
 use Rattle.theory_search.specs.Runs.{progress_of}
@@ -10,5 +10,5 @@ decreases-visit g l = 66 - l.depth
 abbrev pub invariant-loop-k : goal.invariant-loop-k
 invariant-loop-k g l =
     (l.simple ≡ l.initial.simple) × (l.plans ≡ l.initial.plans)
-    × ((r : Run) → Visits [] l.policy.kind (l.depth + 1) l.x (formula_of l.initial.simple) l.k (progress_of l.progress) r
-    → Visits [] l.policy.kind (l.depth + 1) l.x (formula_of l.initial.simple) 0 (progress_of l.initial.progress) r)
+    × ((r : Run) → Visits l.keep l.policy.kind (l.depth + 1) l.x (formula_of l.initial.simple) l.k (progress_of l.progress) r
+    → Visits l.keep l.policy.kind (l.depth + 1) l.x (formula_of l.initial.simple) 0 (progress_of l.initial.progress) r)
