@@ -1,5 +1,5 @@
 -- A half that is put together of a lowered sentence, its search and its witness.
-use Rattle.std.proofs.Common.{◌≡◌, ℕ, ◌≤◌, length, List, [], ◌∷◌, refl, inl, inr, subst}
+use Rattle.std.proofs.Common.{◌≡◌, ℕ, ◌≤◌, length, List, refl, inl, inr, subst}
 use Rattle.std.specs.Prelude.{IfOk, Result, Ok, Err}
 use Rattle.theory_meaning.specs.declared.words.Kind.{Kind}
 use Rattle.theory_meaning.specs.Deciding.{IsHalf}
@@ -32,7 +32,7 @@ use Rattle.theory_verdict.specs.Plain.{half_of}
 use Rattle.theory_witness.specs.Path.{IsHitPath}
 
 -- a formula of named symbols is one over the first of them
-named_is_over : (ns : List Name) (F : Formula) → EachAtom (IsNamed ns) F → IsOver (length ns) F
+pub named_is_over : (ns : List Name) (F : Formula) → EachAtom (IsNamed ns) F → IsOver (length ns) F
 named_is_over ns F h x l = each_follows (IsNamed ns) (λ P S. IsFreeOf x P) F (λ P S n. n x l) h
 
 module _ (kind : Kind) (ns : List Name) (F : Formula) (named : EachAtom (IsNamed ns) F) where

@@ -1,2 +1,3 @@
 pub mod HalfLemmas
 pub mod CauseLemmas
+pub mod RegionLemmas

@@ -1,9 +1,11 @@
--- The plain halves and causes that the types of this crate stand for.
+-- The plain halves, causes and conditions that the types of this crate stand for.
 use Rattle.std.specs.Prelude.{Bool, true, false, Option, Some, None, map}
 use Rattle.theory_meaning.specs.Half as plain
 use Rattle.theory_meaning.specs.Point.{Name}
+use Rattle.theory_meaning.specs.Region as region
 use Rattle.theory_meaning.specs.Tree as tree
 use Rattle.theory_syntax.specs.Plain.{claim_of}
+use Rattle.theory_verdict.specs.declared.answer.Region as source
 use Rattle.theory_verdict.specs.declared.half.StuckOn.{StuckOn}
 use Rattle.theory_verdict.specs.declared.half.Cause.{Cause}
 use Rattle.theory_verdict.specs.declared.half.Cause.TheVariants.{Stuck, Wide, Large, Budget, ManyLeaves}
@@ -28,6 +30,11 @@ half_of (Found p) = plain.found p
 half_of FoundWide = plain.found_wide
 half_of Absent = plain.absent
 half_of (Left cause) = plain.left (cause_of cause)
+
+-- a condition on names
+abbrev pub region_of : source.Region → region.Region
+region_of (source.TheVariants.Known condition) = region.known (claim_of condition)
+region_of (source.TheVariants.Unknown cause) = region.unknown (cause_of cause)
 
 -- yes, no or not known, as an option
 abbrev pub presence : plain.Half → Option Bool

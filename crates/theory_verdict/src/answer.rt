@@ -6,7 +6,9 @@ use theory_syntax::Claim;
 /// The condition on chosen names under which a claim holds.
 #[derive(Drop)]
 pub enum Region {
+    /// Where this is true the claim holds, and nowhere else.
     Known(Claim),
+    /// The method doesn't say.
     Unknown(Cause),
 }
 

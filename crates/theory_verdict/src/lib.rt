@@ -1,8 +1,9 @@
-//! Halves, verdicts, regions and answers, and what decides halves.
+//! Halves, verdicts, regions and answers, and what decides halves and regions.
 //!
 //! A question has two halves: is there an example, a point that meets the assumptions and the
 //! claim, and is there a counterexample, one that meets the assumptions and not the claim.
-//! Contracts see a half as the plain one of `theory_meaning` (`half_of` of `specs/Plain.antt`).
+//! A region is the condition on chosen names under which there is no counterexample. Contracts see
+//! both as the plain ones of `theory_meaning` (`half_of` and `region_of` of `specs/Plain.antt`).
 //! Read `verdict_of` first, then `Decider`.
 #![tactic(auto)]
 

@@ -1,5 +1,5 @@
-use Rattle.std.proofs.Common.{sym, subst}
-use Rattle.theory_decision.specs.Outcomes.{Outcome, IsSearch}
+use Rattle.std.proofs.Common.{subst}
+use Rattle.theory_decision.specs.Outcomes.{IsSearch}
 use Rattle.theory_signs.specs.Plain.{formula_of}
 use Rattle.theory_search.specs.declared.outcome.Outcome as found
 use Rattle.theory_search.specs.Outcomes.{failure_of, outcome_of, path_of}
