@@ -1,29 +1,30 @@
--- An answer that is put together of the halves of the two written sentences.
-use Rattle.std.proofs.Common.{◌≡◌, ◌≤◌, length, Bool, true, false, List, [], ◌∷◌, Option, Some, None, is_some, refl, sym, ap, subst, arith}
-use Rattle.std.specs.Prelude.{Contains, IfSome, if◌then◌else◌}
-use Rattle.std.proofs.lemmas.Bool.{false≢true, cond_both}
-use Rattle.std.proofs.lemmas.List.Elements.{Contains-append_right}
-use Rattle.std.proofs.lemmas.Slice.Eq.{bytes_eq-Decides}
+-- The reply to a question about a claim: a refusal, or an answer that is put together of the halves and the condition by
+-- the two written sentences.
+use Rattle.std.proofs.Common.{◌≡◌, ℕ, Bool, true, false, List, [], ◌∷◌, Option, Some, None, is_some, option_map, refl, sym, ap, ◌∙◌, subst}
+use Rattle.std.specs.Prelude.{IfSome, if◌then◌else◌}
+use Rattle.std.proofs.lemmas.Bool.{false≢true}
 use Rattle.std.specs.Str.{bytes_eq}
 use Rattle.theory_meaning.specs.declared.words.Kind.{Kind}
 use Rattle.theory_meaning.specs.declared.words.Verdict.{Verdict}
-use Rattle.theory_meaning.specs.Deciding.{Meanings, IsHalf}
+use Rattle.theory_meaning.specs.Deciding.{Meanings, IsHalf, IsRegion}
 use Rattle.theory_meaning.specs.Declarations.{or_answer, or_else, shifted_by, is_shifted, listed_in, listed_symbols}
-use Rattle.theory_meaning.specs.Edit.{IsModel, lines_alone}
 use Rattle.theory_meaning.specs.Half.{Half}
 use Rattle.theory_meaning.specs.Model.{IsRightAnswer}
-use Rattle.theory_meaning.specs.Point.{Name, AreDistinct}
+use Rattle.theory_meaning.specs.Point.{Name}
+use Rattle.theory_meaning.specs.Region.{Region, AreAmong}
 use Rattle.theory_meaning.specs.Text.{Numbered}
 use Rattle.theory_meaning.specs.Tree.{Claim, Line, model, var, param, function, equation, assume, claim}
 use Rattle.theory_meaning.specs.Verdict.{verdict_of_halves}
 use Rattle.theory_derivative.specs.Sentence.{claim_at, claim_in, example_of, counter_of}
 use Rattle.theory_derivative.proofs.SentenceLaws.{sentences_give_the_right_answer}
-use Rattle.theory_lowering.specs.LoweringLimits.{AreListed}
-use Rattle.theory_session.specs.Answered.{IsAnswer}
-use Rattle.theory_session.specs.Check.{question_about}
+use Rattle.theory_session.specs.Ask.{Answer, AskFault, unknown_name}
+use Rattle.theory_session.specs.Answered.{tells_region, IsRightOfModel, IsAnswer, symbols_for, fault_in}
+use Rattle.theory_session.specs.Check.{question_about, RepliesBy, Replies}
 use Rattle.theory_session.specs.Create.{first_version}
-use Rattle.theory_session.specs.Ask.{Answer}
-use Rattle.theory_cli.proofs.ListedNames.{SentencesFit, sentences_fit}
+use Rattle.theory_session.specs.Names.{each_once, first_unlisted}
+use Rattle.theory_session.specs.Run.{Reply, answered, refused, of_question}
+use Rattle.theory_session.proofs.ConditionLaws.{right_region}
+use Rattle.theory_session.proofs.NameLaws.{once_among, none_unlisted}
 
 -- a claim of a model by its label, with what it lists
 pub record HasClaim (lines : List Numbered) (label : Name) : Type 0 where
@@ -31,7 +32,6 @@ pub record HasClaim (lines : List Numbered) (label : Name) : Type 0 where
   pub claimed : Claim
   pub found : claim_in lines label ≡ Some (shift, claimed)
   pub listed : listed_symbols lines label ≡ listed_in (is_some shift) lines
-  pub own : Contains (lines_alone lines) (claim label shift claimed)
 
 module _ (label : Name) where
   -- the shift that was found is named
@@ -57,76 +57,67 @@ module _ (label : Name) where
   shift_found [] = tt
   shift_found (n ∷ ns) = shift_by n.line (claim_in ns label) (is_shifted label ns) (shift_found ns)
 
-  -- and its line is one of the lines
-  abbrev IsLineOf : List Line → Option (Option Name × Claim) → Type 0
-  IsLineOf ls None = Unit {0}
-  IsLineOf ls (Some p) = Contains ls (claim label p.0 p.1)
-
-  line_behind : (line : Line) (ls : List Line) (o : Option (Option Name × Claim)) → IsLineOf ls o → IsLineOf (line ∷ ls) o
-  line_behind line ls None h = tt
-  line_behind line ls (Some p) h = Contains-append_right (line ∷ []) ls (claim label p.0 p.1) h
-
-  line_by : (line : Line) (ls : List Line) (o : Option (Option Name × Claim)) → IsLineOf ls o → IsLineOf (line ∷ ls) (or_else (claim_at label line) o)
-  line_by (claim own s c) ls o h =
-      cond_both (bytes_eq own label) (Some (s, c)) None (λ (a : Option (Option Name × Claim)). IsLineOf (claim own s c ∷ ls) (or_else a o))
-      (λ is. subst (λ (l : Name). Contains (claim own s c ∷ ls) (claim l s c)) ((bytes_eq-Decides own label).0 is) (0, omega arith, refl))
-      (λ other. line_behind (claim own s c) ls o h)
-  line_by (model n) ls o h = line_behind (model n) ls o h
-  line_by (var x) ls o h = line_behind (var x) ls o h
-  line_by (param t) ls o h = line_behind (param t) ls o h
-  line_by (function f us) ls o h = line_behind (function f us) ls o h
-  line_by (equation l u v) ls o h = line_behind (equation l u v) ls o h
-  line_by (assume l c) ls o h = line_behind (assume l c) ls o h
-
-  line_found : (lines : List Numbered) → IsLineOf (lines_alone lines) (claim_in lines label)
-  line_found [] = tt
-  line_found (n ∷ ns) = line_by n.line (lines_alone ns) (claim_in ns label) (line_found ns)
-
   pub has_claim : (lines : List Numbered) → is_some (claim_in lines label) ≡ true → HasClaim lines label
   has_claim lines h = by_found (claim_in lines label) refl h
     where
       by_found : (o : Option (Option Name × Claim)) → claim_in lines label ≡ o → is_some o ≡ true → HasClaim lines label
       by_found None is h = absurd (false≢true h)
       by_found (Some p) is h =
-          record {
-            shift = p.0;
-            claimed = p.1;
-            found = is;
-            listed = ap (λ (b : Bool). listed_in b lines) (subst (λ (o : Option (Option Name × Claim)). IsShiftOf o (is_shifted label lines)) is (shift_found lines));
-            own = subst (IsLineOf (lines_alone lines)) is (line_found lines);
-          }
+          let named : is_shifted label lines ≡ is_some p.0 =
+          subst (λ (o : Option (Option Name × Claim)). IsShiftOf o (is_shifted label lines)) is (shift_found lines) in
+          record { shift = p.0; claimed = p.1; found = is; listed = ap (λ (b : Bool). listed_in b lines) named }
 
 -- a fact of the claim under a label
 pub of_claim : (lines : List Numbered) (label : Name) (h : HasClaim lines label) (Fact : Option Name → Claim → Type 0)
     → IfSome (claim_in lines label) (λ asked. Fact asked.0 asked.1) → Fact h.shift h.claimed
 of_claim lines label h Fact k = subst (λ (o : Option (Option Name × Claim)). IfSome o (λ asked. Fact asked.0 asked.1)) h.found k
 
--- what a decider asks of the two sentences of a claim
-module _ (lines : List Numbered) (label : Name) (shift : Option Name) (c : Claim) (checked : IsModel lines)
-    (own : Contains (lines_alone lines) (claim label shift c)) (names : List Name) (are : names ≡ listed_in (is_some shift) lines) where
-  fit : SentencesFit lines shift c
-  fit = sentences_fit lines label shift c checked own
+-- the reply to a question by the first of the names that isn't listed
+module _ (m : Meanings) (lines : List Numbered) (name label : Name) (on_names : List Name) (kind : Kind) (own : is_some (claim_in lines label) ≡ true)
+    (listed : List Name) (are : listed ≡ listed_symbols lines label) (found : Option ℕ) (first : found ≡ first_unlisted listed on_names) where
+  fault_is : fault_in lines (question_about name on_names kind label) ≡ option_map unknown_name found
+  fault_is =
+      let h : HasClaim lines label = has_claim label lines own in
+      let same : symbols_for lines (claim_in lines label) ≡ listed = ap (symbols_for lines) h.found ∙ sym h.listed ∙ sym are in
+      ap (λ (ns : List Name). option_map unknown_name (first_unlisted ns on_names)) same ∙ ap (option_map unknown_name) (sym first)
 
-  pub few_listed : length names ≤ 32
-  few_listed = subst (λ (ns : List Name). length ns ≤ 32) (sym are) fit.few
+  replies_by : (o : Option ℕ) (reply : Reply) → found ≡ o → RepliesBy m lines (question_about name on_names kind label) (option_map unknown_name o) reply
+      → Replies m lines (question_about name on_names kind label) reply
+  replies_by o reply is h =
+      subst (λ (f : Option AskFault). RepliesBy m lines (question_about name on_names kind label) f reply) (sym (fault_is ∙ ap (option_map unknown_name) is)) h
 
-  pub distinct_listed : AreDistinct names
-  distinct_listed = subst AreDistinct (sym are) fit.distinct
+  pub refused_is_reply : (place : ℕ) → found ≡ Some place → Replies m lines (question_about name on_names kind label) (refused (of_question (unknown_name place)))
+  refused_is_reply place is = replies_by (Some place) (refused (of_question (unknown_name place))) is refl
 
-  pub example_listed : (cs : List Claim) → cs ≡ example_of lines shift c → AreListed names cs
-  example_listed cs is = subst (λ (ns : List Name). AreListed ns cs) (sym are) (subst (AreListed (listed_in (is_some shift) lines)) (sym is) fit.example)
-
-  pub counter_listed : (cs : List Claim) → cs ≡ counter_of lines shift c → AreListed names cs
-  counter_listed cs is = subst (λ (ns : List Name). AreListed ns cs) (sym are) (subst (AreListed (listed_in (is_some shift) lines)) (sym is) fit.counter)
+  pub answered_is_reply : (a : Answer) → found ≡ None → IsAnswer m lines (question_about name on_names kind label) a
+      → Replies m lines (question_about name on_names kind label) (answered a)
+  answered_is_reply a is h = replies_by None (answered a) is (a, h, refl)
 
 -- a half of a sentence said by its parts
-pub half_of_parts : {m : Meanings} {ns ms : List Name} {cs ds : List Claim} {kind asked : Kind} {h : Half} → ns ≡ ms → cs ≡ ds → kind ≡ asked
-    → IsHalf m ns cs kind h → IsHalf m ms ds asked h
-half_of_parts {m} {ns} {ms} {cs} {ds} {kind} {asked} {h} e f k w =
-    subst (λ (o : Kind). IsHalf m ms ds o h) k (subst (λ (xs : List Name). IsHalf m xs ds kind h) e (subst (λ (xs : List Claim). IsHalf m ns xs kind h) f w))
+pub half_of_parts : {m : Meanings} {ns ms : List Name} {cs ds : List Claim} {kind : Kind} {h : Half} → ns ≡ ms → cs ≡ ds
+    → IsHalf m ns cs kind h → IsHalf m ms ds kind h
+half_of_parts {m} {ns} {ms} {cs} {ds} {kind} {h} e f w =
+    subst (λ (xs : List Name). IsHalf m xs ds kind h) e (subst (λ (xs : List Claim). IsHalf m ns xs kind h) f w)
+
+-- and a condition by a sentence
+pub region_of_parts : (m : Meanings) {ns ms : List Name} {cs ds : List Claim} (on_names : List Name) (kind : Kind) (o : Option Region) → ns ≡ ms → cs ≡ ds
+    → IfSome o (λ r. IsRegion m ns cs on_names kind r) → IfSome o (λ r. IsRegion m ms ds on_names kind r)
+region_of_parts m {ns} {ms} {cs} {ds} on_names kind o e f w =
+    subst (λ (xs : List Name). IfSome o (λ r. IsRegion m xs ds on_names kind r)) e
+    (subst (λ (xs : List Claim). IfSome o (λ r. IsRegion m ns xs on_names kind r)) f w)
+
+-- what stands for an option is there where it is, and has the facts of what it stands for
+pub there_too : {S T : Type 0} (f : S → T) (o : Option S) → is_some (option_map f o) ≡ is_some o
+there_too f None = refl
+there_too f (Some x) = refl
+
+pub if_there_too : {S T : Type 0} (f : S → T) (Fact : T → Type 0) (o : Option S) → IfSome o (λ x. Fact (f x)) → IfSome (option_map f o) Fact
+if_there_too f Fact None h = tt
+if_there_too f Fact (Some x) h = h
 
 -- what is known of an answer when it is put together
-pub record IsMade (m : Meanings) (lines : List Numbered) (name label : Name) (shift : Option Name) (c : Claim) (kind : Kind) (made : Answer) : Type 0 where
+pub record IsMade (m : Meanings) (lines : List Numbered) (name label : Name) (on_names : List Name) (shift : Option Name) (c : Claim) (kind : Kind)
+    (made : Answer) : Type 0 where
   pub own : claim_in lines label ≡ Some (shift, c)
   pub model_is : made.model ≡ name
   pub version_is : made.version ≡ first_version
@@ -135,12 +126,20 @@ pub record IsMade (m : Meanings) (lines : List Numbered) (name label : Name) (sh
   pub example : IsHalf m (listed_in (is_some shift) lines) (example_of lines shift c) kind made.example
   pub counter : IsHalf m (listed_in (is_some shift) lines) (counter_of lines shift c) kind made.counter
   pub verdict_is : made.verdict ≡ verdict_of_halves made.example made.counter
-  pub no_region : made.region ≡ None
+  pub region_there : is_some made.region ≡ tells_region on_names made.verdict
+  pub region : IfSome made.region (λ r. IsRegion m (listed_in (is_some shift) lines) (counter_of lines shift c) (each_once on_names) kind r)
+
+-- a condition that the decider may give is right of the model
+module _ (m : Meanings) (lines : List Numbered) (shift : Option Name) (c : Claim) (ns on_names : List Name) (kind : Kind) where
+  told_is_right : (o : Option Region) → IfSome o (λ r. IsRegion m ns (counter_of lines shift c) (each_once on_names) kind r)
+      → IfSome o (λ r. IsRightOfModel lines shift c on_names r)
+  told_is_right None h = tt
+  told_is_right (Some r) h = right_region lines shift c on_names r h.right
 
 -- so it is the answer of the model
-pub made_is_answer : (m : Meanings) (lines : List Numbered) (name label : Name) (shift : Option Name) (c : Claim) (kind : Kind) (made : Answer)
-    → IsMade m lines name label shift c kind made → IsAnswer m lines (question_about name kind label) made
-made_is_answer m lines name label shift c kind made is =
+pub made_is_answer : (m : Meanings) (lines : List Numbered) (name label : Name) (on_names : List Name) (shift : Option Name) (c : Claim) (kind : Kind)
+    (made : Answer) → IsMade m lines name label on_names shift c kind made → IsAnswer m lines (question_about name on_names kind label) made
+made_is_answer m lines name label on_names shift c kind made is =
     let right : IsRightAnswer lines shift c made.example made.counter (verdict_of_halves made.example made.counter) =
     sentences_give_the_right_answer lines shift c made.example made.counter is.example.right is.counter.right in
     record {
@@ -155,5 +154,11 @@ made_is_answer m lines name label shift c kind made is =
       counter_is = is.counter;
       verdict_is = is.verdict_is;
       right = subst (λ (v : Verdict). IsRightAnswer lines shift c made.example made.counter v) (sym is.verdict_is) right;
-      no_region = λ on. is.no_region;
+      region_there = is.region_there;
+      region_is = is.region;
+      region_right = told_is_right m lines shift c (listed_in (is_some shift) lines) on_names kind made.region is.region;
     }
+
+-- where each of the names is listed, so is each of them once
+pub listed_once : (listed on_names : List Name) → first_unlisted listed on_names ≡ None → AreAmong (each_once on_names) listed
+listed_once listed on_names none x k = (none_unlisted listed on_names).0 none x (once_among on_names x k)

@@ -5,7 +5,7 @@ use Rattle.std.proofs.lemmas.Bool.{both_ways}
 use Rattle.theory_meaning.specs.Faults.{Rose, one_more}
 use Rattle.theory_edge.specs.Files.{FilesTold, IsRead, ReadOnce}
 use Rattle.theory_edge.specs.Sinks.{SinkTold}
-use Rattle.theory_session.specs.Run.{Reply, some_undecided}
+use Rattle.theory_session.specs.Run.{Reply, some_open}
 use Rattle.theory_session.specs.Printed.{line_end}
 use Rattle.theory_words.specs.Commands.{Command, check, derive, IsCommand}
 use Rattle.theory_cli.specs.declared.session.Halt.{Halt}
@@ -21,7 +21,7 @@ use Rattle.theory_syntax.specs.Plain.{lines_of}
 use Rattle.theory_cli.specs.Command.{file_of, Given, no_words, no_command, not_asked, no_bytes, gave, AreWords, text_limit}
 use Rattle.theory_cli.specs.Ending.{IsCause, IsWritten, IsReported, no_memory_line}
 use Rattle.theory_cli.specs.Run.{Ends, AreMade, IsOutput, IsRun}
-use Rattle.theory_cli.specs.Running.{refusal_text, IsParsed, given_command, HasRead, GivesModel, ReadsFile, stop_line, ended_with, CarriesOut, IsCarriedOut, Reports}
+use Rattle.theory_cli.specs.Running.{text_refusal_text, IsParsed, given_command, HasRead, GivesModel, ReadsFile, stop_line, ended_with, CarriesOut, IsCarriedOut, Reports}
 use Rattle.theory_cli.specs.Session.{AreReplies, AreFirstReplies}
 use Rattle.theory_cli.specs.Taking.{TookReplies}
 use Rattle.theory_cli.specs.Telling.{Answers}
@@ -85,10 +85,10 @@ module _ (m : Meanings) (c : Command) (files files' : FilesTold) (replies : List
       GivesModel given files files' (Err stop) → CarriesOut m c given files files' replies out out (Err stop)
   unread_check out (Refused r) (gave f bytes) empty read gives = record {
     read = read;
-    cause = (refusal_text r, gives);
+    cause = (text_refusal_text r, gives);
     made = empty;
     output = none_taken replies out empty;
-    line = (refusal_text r, gives, ap (λ (d : Command). file_of d ++ refusal_text r ++ line_end) (sym (command_is f c read.command)));
+    line = (text_refusal_text r, gives, ap (λ (d : Command). file_of d ++ text_refusal_text r ++ line_end) (sym (command_is f c read.command)));
   }
   unread_check out (Refused r) no_words empty read gives = absurd gives
   unread_check out (Refused r) no_command empty read gives = absurd gives
@@ -131,12 +131,12 @@ module _ (m : Meanings) (c : Command) (files files' : FilesTold) (replies : List
       → AreFirstReplies m f lines replies
   begun_by f lines read made = subst (λ (d : Command). AreFirstReplies m d lines replies) (sym (command_is f c read.command)) made
 
-  -- where a claim is left undecided the command was a check
-  undecided_check : (f : Command) (lines : List Numbered) (bytes : List ℕ) → AreReplies m f lines replies → some_undecided replies ≡ true
-      → IsCause (gave f bytes) files files' status.Undecided
-  undecided_check (check file kind) lines bytes made e = tt
-  undecided_check (derive file) lines bytes made e =
-      let decided : some_undecided replies ≡ false = ap some_undecided made in absurd (both_ways (some_undecided replies) decided e)
+  -- where some reply is open the command was a check
+  unsettled_check : (f : Command) (lines : List Numbered) (bytes : List ℕ) → AreReplies m f lines replies → some_open replies ≡ true
+      → IsCause (gave f bytes) files files' status.Unsettled
+  unsettled_check (check file kind on) lines bytes made e = tt
+  unsettled_check (derive file) lines bytes made e =
+      let decided : some_open replies ≡ false = ap some_open made in absurd (both_ways (some_open replies) decided e)
 
   -- a run whose file was read as a model
   answered_check : (model : List source.Numbered) (out out' : SinkTold) (told : Result (Unit {0}) Halt) (given : Given) → HasRead c given files files' →
@@ -149,17 +149,17 @@ module _ (m : Meanings) (c : Command) (files files' : FilesTold) (replies : List
   answered_check model out out' told (no_bytes f) read gives answers = absurd gives
   answered_check model out out' (Ok tt) (gave f bytes) read gives answers = record {
     read = read;
-    cause = elim (some_undecided replies)
-        as (λ b. some_undecided replies ≡ b → IsCause (gave f bytes) files files' (if b then status.Undecided else status.Finished)) [
-          | true ↦ λ e. undecided_check f (lines_of model) bytes (made_by f (lines_of model) read answers.0) e
+    cause = elim (some_open replies)
+        as (λ b. some_open replies ≡ b → IsCause (gave f bytes) files files' (if b then status.Unsettled else status.Finished)) [
+          | true ↦ λ e. unsettled_check f (lines_of model) bytes (made_by f (lines_of model) read answers.0) e
           | false ↦ λ e. tt
         ] refl;
-    made = elim (some_undecided replies)
-        as (λ b. some_undecided replies ≡ b → AreMade m (gave f bytes) (if b then status.Undecided else status.Finished) replies) [
+    made = elim (some_open replies)
+        as (λ b. some_open replies ≡ b → AreMade m (gave f bytes) (if b then status.Unsettled else status.Finished) replies) [
           | true ↦ λ e. ((lines_of model, gives, made_by f (lines_of model) read answers.0), e)
           | false ↦ λ e. ((lines_of model, gives, made_by f (lines_of model) read answers.0), e)
         ] refl;
-    output = elim (some_undecided replies) as (λ b. IsOutput (if b then status.Undecided else status.Finished) replies out out') [
+    output = elim (some_open replies) as (λ b. IsOutput (if b then status.Unsettled else status.Finished) replies out out') [
       | true ↦ answers.1
       | false ↦ answers.1
     ];
@@ -259,8 +259,8 @@ module _ (m : Meanings) (c : Command) (words : List (List ℕ)) (is : IsCommand 
   finished_run ends stands (given, k) =
       run_by given (ended_with replies) k.read k.cause k.made k.output
       (subst (λ (s : Status). IsReported given (ended_with replies) before.err now.err s) (sym ends)
-      (elim (some_undecided replies)
-      as (λ b. IsReported given (if b then status.Undecided else status.Finished) before.err now.err (if b then status.Undecided else status.Finished)) [
+      (elim (some_open replies)
+      as (λ b. IsReported given (if b then status.Unsettled else status.Finished) before.err now.err (if b then status.Unsettled else status.Finished)) [
         | true ↦ (refl, stands)
         | false ↦ (refl, stands)
       ]))

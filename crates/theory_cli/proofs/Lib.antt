@@ -1,11 +1,10 @@
-pub mod NameLaws
-pub mod DistinctNames
-pub mod DerivativeNames
-pub mod ListedNames
+pub mod OnceLemmas
+pub mod ListedSentences
 pub mod SessionLemmas
 pub mod AnswerLemmas
 pub mod RunLemmas
-pub mod RefusalLemmas
+pub mod TextRefusalLemmas
 pub mod ExclusionLemmas
 pub mod CheckLemmas
 pub mod ProgramLemmas
+pub mod RefusedLemmas

@@ -4,9 +4,9 @@ use Rattle.theory_meaning.specs.Deciding.{Meanings}
 use Rattle.theory_meaning.specs.Faults.{Rose}
 use Rattle.theory_edge.specs.Sinks.{SinkTold}
 use Rattle.theory_session.specs.Run.{Reply}
-use Rattle.theory_words.specs.Commands.{Command, check, derive, IsCommand, IsNoCommand}
+use Rattle.theory_words.specs.Commands.{Command, IsCommand, IsNoCommand}
 use Rattle.theory_cli.specs.declared.status.Status.{Status}
-use Rattle.theory_cli.specs.declared.status.Status.TheVariants.{Finished, Undecided, NoCommand, Refused, Unread, Unwritten, NoMemory}
+use Rattle.theory_cli.specs.declared.status.Status.TheVariants.{Finished, Unsettled, NoCommand, Refused, Unread, Unwritten, NoMemory}
 use Rattle.theory_cli.specs.Command.{Given, no_words, no_command, not_asked, no_bytes, gave, AreWords, IsGiven, IsAsked}
 use Rattle.theory_cli.specs.Session.{AreReplies}
 use Rattle.theory_cli.specs.Taking.{TookReplies, CutInLast}
@@ -37,7 +37,7 @@ written_as meant line before now status written = ⊎_elim (λ w. inl w.0) (λ c
 ends_as : (given : Given) (reached : Status) (before now : SinkTold) (status : Status) → IsReported given reached before now status →
     EndsAs reached before now status
 ends_as given Finished before now status r = inl r.0
-ends_as given Undecided before now status r = inl r.0
+ends_as given Unsettled before now status r = inl r.0
 ends_as given NoCommand before now status r = written_as NoCommand r.0 before now status r.2
 ends_as given Refused before now status r = written_as Refused r.0 before now status r.2
 ends_as given Unread before now status r = written_as Unread r.0 before now status r.2
@@ -85,27 +85,27 @@ module _ (m : Meanings) (words : List (List ℕ)) (before now : Ends) (replies :
   reaches no_command reached d are command none cause output = absurd (are d command)
   reaches no_words NoMemory d are command none cause output = inr (inr refl)
   reaches no_words Finished d are command none cause output = absurd cause
-  reaches no_words Undecided d are command none cause output = absurd cause
+  reaches no_words Unsettled d are command none cause output = absurd cause
   reaches no_words NoCommand d are command none cause output = absurd cause
   reaches no_words Refused d are command none cause output = absurd cause
   reaches no_words Unread d are command none cause output = absurd cause
   reaches no_words Unwritten d are command none cause output = absurd cause
   reaches (not_asked f) NoMemory d are command none cause output = inr (inr refl)
   reaches (not_asked f) Finished d are command none cause output = absurd cause
-  reaches (not_asked f) Undecided d are command none cause output = absurd cause
+  reaches (not_asked f) Unsettled d are command none cause output = absurd cause
   reaches (not_asked f) NoCommand d are command none cause output = absurd cause
   reaches (not_asked f) Refused d are command none cause output = absurd cause
   reaches (not_asked f) Unread d are command none cause output = absurd cause
   reaches (not_asked f) Unwritten d are command none cause output = absurd cause
   reaches (no_bytes f) NoMemory d are command none cause output = inr (inr refl)
   reaches (no_bytes f) Finished d are command none cause output = absurd cause
-  reaches (no_bytes f) Undecided d are command none cause output = absurd cause
+  reaches (no_bytes f) Unsettled d are command none cause output = absurd cause
   reaches (no_bytes f) NoCommand d are command none cause output = absurd cause
   reaches (no_bytes f) Refused d are command none cause output = absurd cause
   reaches (no_bytes f) Unread d are command none cause output = absurd (none.files cause)
   reaches (no_bytes f) Unwritten d are command none cause output = absurd cause
   reaches (gave f bytes) Finished d are command none cause output = inl (inl refl)
-  reaches (gave f bytes) Undecided d are command none cause output = inl (inr refl)
+  reaches (gave f bytes) Unsettled d are command none cause output = inl (inr refl)
   reaches (gave f bytes) Refused d are command none cause output = inr (inl refl)
   reaches (gave f bytes) NoMemory d are command none cause output = inr (inr refl)
   reaches (gave f bytes) NoCommand d are command none cause output = absurd cause
@@ -117,14 +117,14 @@ module _ (m : Meanings) (words : List (List ℕ)) (before now : Ends) (replies :
       IsCause given before.files now.files reached → (reached ≡ NoCommand) ⊎ (reached ≡ NoMemory)
   reaches_one no_command NoCommand are other cause = inl refl
   reaches_one no_command Finished are other cause = absurd cause
-  reaches_one no_command Undecided are other cause = absurd cause
+  reaches_one no_command Unsettled are other cause = absurd cause
   reaches_one no_command Refused are other cause = absurd cause
   reaches_one no_command Unread are other cause = absurd cause
   reaches_one no_command Unwritten are other cause = absurd cause
   reaches_one no_command NoMemory are other cause = absurd cause
   reaches_one no_words NoMemory are other cause = inr refl
   reaches_one no_words Finished are other cause = absurd cause
-  reaches_one no_words Undecided are other cause = absurd cause
+  reaches_one no_words Unsettled are other cause = absurd cause
   reaches_one no_words NoCommand are other cause = absurd cause
   reaches_one no_words Refused are other cause = absurd cause
   reaches_one no_words Unread are other cause = absurd cause

@@ -9,20 +9,20 @@ use Rattle.theory_meaning.specs.Point.{Name}
 use Rattle.theory_meaning.specs.Deciding.{Meanings}
 use Rattle.theory_derivative.specs.Sentence.{claim_at, claim_in}
 use Rattle.theory_meaning.specs.Text.{Numbered}
-use Rattle.theory_meaning.specs.Tree.{Claim, Line, claim}
+use Rattle.theory_meaning.specs.Tree.{Claim, claim}
 use Rattle.theory_meaning.specs.Faults.{Took}
 use Rattle.theory_edge.specs.Sinks.{SinkTold}
 use Rattle.theory_session.specs.Ask.{Question}
 use Rattle.theory_session.specs.Run.{Reply}
 use Rattle.theory_session.specs.Printed.{reply_text, replies_text}
 use Rattle.theory_session.specs.Create.{name_in}
-use Rattle.theory_session.specs.Check.{onto_labels, claim_labels, question_about, questions_of, Answers, AreAnswers, creation, AreReplies, AreFirstReplies}
+use Rattle.theory_session.specs.Check.{onto_labels, claim_labels, question_about, questions_of, Replies, AreRepliesTo, creation, AreReplies, AreFirstReplies}
 use Rattle.theory_session.specs.Derive.{derivation, AreDerived, AreFirstDerived}
 use Rattle.theory_syntax.specs.declared.claim.Claim as source_claim
 use Rattle.theory_syntax.specs.declared.line.Line as source_line
 use Rattle.theory_syntax.specs.declared.line.Line.TheVariants as source_lines
 use Rattle.theory_syntax.specs.declared.text.Numbered as source
-use Rattle.theory_syntax.specs.Plain.{claim_of, line_of, numbered_of, lines_of}
+use Rattle.theory_syntax.specs.Plain.{claim_of, line_of, lines_of}
 use Rattle.theory_cli.specs.declared.session.Halt.{Halt}
 use Rattle.theory_cli.specs.declared.session.Halt.TheVariants.{Unwritten, NoMemory}
 use Rattle.theory_cli.specs.declared.reply.Reply as source_reply
@@ -61,49 +61,49 @@ cut_last : (rs new : List Reply) (r : Reply) (h i j : SinkTold) → new ≡ rs +
 cut_last rs new r h i j more taken cut = record { whole = rs; last = r; between = i; all = more; taken = taken; cut = cut }
 
 -- one more answer
-answers-push : (m : Meanings) (lines : List Numbered) (asked : List Question) (answers : List Reply) (one : Question) (r : Reply) →
-    AreAnswers m lines asked answers → Answers m lines one r → AreAnswers m lines (asked ++ one ∷ []) (answers ++ r ∷ [])
-answers-push m lines [] [] one r h k = (k, refl)
-answers-push m lines [] (q ∷ answers) one r h k = absurd (let bad : ◌≡◌ {A = List Reply} (q ∷ answers) [] = h in cc)
-answers-push m lines (a ∷ asked) [] one r h k = absurd h
-answers-push m lines (a ∷ asked) (q ∷ answers) one r h k = (h.0, answers-push m lines asked answers one r h.1 k)
+replies-push : (m : Meanings) (lines : List Numbered) (asked : List Question) (answers : List Reply) (one : Question) (r : Reply) →
+    AreRepliesTo m lines asked answers → Replies m lines one r → AreRepliesTo m lines (asked ++ one ∷ []) (answers ++ r ∷ [])
+replies-push m lines [] [] one r h k = (k, refl)
+replies-push m lines [] (q ∷ answers) one r h k = absurd (let bad : ◌≡◌ {A = List Reply} (q ∷ answers) [] = h in cc)
+replies-push m lines (a ∷ asked) [] one r h k = absurd h
+replies-push m lines (a ∷ asked) (q ∷ answers) one r h k = (h.0, replies-push m lines asked answers one r h.1 k)
 
 -- the questions about the claims of the lines that are left
-abbrev questions_left : List Numbered → Kind → List Numbered → List Question
-questions_left lines kind left = map (question_about (name_in lines) kind) (claim_labels left)
+abbrev questions_left : List Numbered → List Name → Kind → List Numbered → List Question
+questions_left lines on kind left = map (question_about (name_in lines) on kind) (claim_labels left)
 
 -- the creation and the answers to the claims before these lines
-pub record AnsweredTo (m : Meanings) (lines : List Numbered) (kind : Kind) (left : List Numbered) (replies : List Reply) : Type 0 where
+pub record AnsweredTo (m : Meanings) (lines : List Numbered) (on : List Name) (kind : Kind) (left : List Numbered) (replies : List Reply) : Type 0 where
   pub answers : List Reply
   pub asked : List Question
   pub are : replies ≡ creation lines ∷ answers
-  pub split : asked ++ questions_left lines kind left ≡ questions_of lines kind
-  pub answered : AreAnswers m lines asked answers
+  pub split : asked ++ questions_left lines on kind left ≡ questions_of lines on kind
+  pub answered : AreRepliesTo m lines asked answers
 
-first_replies : (m : Meanings) (lines : List Numbered) (kind : Kind) (left : List Numbered) (replies : List Reply) → AnsweredTo m lines kind left replies
-    → AreFirstReplies m lines kind replies
-first_replies m lines kind left replies a =
-    subst (AreFirstReplies m lines kind) (sym a.are) (refl, (a.asked, questions_left lines kind left, a.split, a.answered))
+first_replies : (m : Meanings) (lines : List Numbered) (on : List Name) (kind : Kind) (left : List Numbered) (replies : List Reply) → AnsweredTo m lines on kind left replies
+    → AreFirstReplies m lines on kind replies
+first_replies m lines on kind left replies a =
+    subst (AreFirstReplies m lines on kind) (sym a.are) (refl, (a.asked, questions_left lines on kind left, a.split, a.answered))
 
-all_replies : (m : Meanings) (lines : List Numbered) (kind : Kind) (replies : List Reply) → AnsweredTo m lines kind [] replies
-    → AreReplies m lines kind replies
-all_replies m lines kind replies a =
-    let all : a.asked ≡ questions_of lines kind = sym (append-nil a.asked) ∙ a.split in
-    subst (AreReplies m lines kind) (sym a.are) (refl, subst (λ (qs : List Question). AreAnswers m lines qs a.answers) all a.answered)
+all_replies : (m : Meanings) (lines : List Numbered) (on : List Name) (kind : Kind) (replies : List Reply) → AnsweredTo m lines on kind [] replies
+    → AreReplies m lines on kind replies
+all_replies m lines on kind replies a =
+    let all : a.asked ≡ questions_of lines on kind = sym (append-nil a.asked) ∙ a.split in
+    subst (AreReplies m lines on kind) (sym a.are) (refl, subst (λ (qs : List Question). AreRepliesTo m lines qs a.answers) all a.answered)
 
 -- one more answer was told
-answered_more : (m : Meanings) (lines : List Numbered) (kind : Kind) (left : List Numbered) (label : Name) (old new : List Reply) (r : Reply)
-    → Answers m lines (question_about (name_in lines) kind label) r → new ≡ old ++ r ∷ []
-    → (later : List Numbered) → claim_labels left ≡ label ∷ claim_labels later → AnsweredTo m lines kind left old → AnsweredTo m lines kind later new
-answered_more m lines kind left label old new r is more later next a =
-    let one : Question = question_about (name_in lines) kind label in
+answered_more : (m : Meanings) (lines : List Numbered) (on : List Name) (kind : Kind) (left : List Numbered) (label : Name) (old new : List Reply) (r : Reply)
+    → Replies m lines (question_about (name_in lines) on kind label) r → new ≡ old ++ r ∷ []
+    → (later : List Numbered) → claim_labels left ≡ label ∷ claim_labels later → AnsweredTo m lines on kind left old → AnsweredTo m lines on kind later new
+answered_more m lines on kind left label old new r is more later next a =
+    let one : Question = question_about (name_in lines) on kind label in
     record {
       answers = a.answers ++ r ∷ [];
       asked = a.asked ++ one ∷ [];
       are = more ∙ ap (λ (l : List Reply). l ++ r ∷ []) a.are;
-      split = append_assoc a.asked (one ∷ []) (questions_left lines kind later)
-          ∙ ap (λ (l : List Name). a.asked ++ map (question_about (name_in lines) kind) l) (sym next) ∙ a.split;
-      answered = answers-push m lines a.asked a.answers one r a.answered is;
+      split = append_assoc a.asked (one ∷ []) (questions_left lines on kind later)
+          ∙ ap (λ (l : List Name). a.asked ++ map (question_about (name_in lines) on kind) l) (sym next) ∙ a.split;
+      answered = replies-push m lines a.asked a.answers one r a.answered is;
     }
 
 -- the lines from one place on
@@ -111,13 +111,13 @@ abbrev rest_of : List source.Numbered → ℕ → List Numbered
 rest_of ls k = lines_of (drop k ls)
 
 -- the replies before the k-th line, with their prints
-pub record GoneOn (m : Meanings) (ls : List source.Numbered) (kind : Kind) (k : ℕ) (replies : List Reply) (before now : SinkTold) : Type 0 where
-  pub answered : AnsweredTo m (lines_of ls) kind (rest_of ls k) replies
+pub record GoneOn (m : Meanings) (ls : List source.Numbered) (on : List Name) (kind : Kind) (k : ℕ) (replies : List Reply) (before now : SinkTold) : Type 0 where
+  pub answered : AnsweredTo m (lines_of ls) on kind (rest_of ls k) replies
   pub told : TookReplies replies before now
 
-pub begun : (m : Meanings) (ls : List source.Numbered) (kind : Kind) (old new : List Reply) (before now : SinkTold) → old ≡ [] →
-    TellsOne (λ r. r ≡ creation (lines_of ls)) old new before now (Ok tt) → GoneOn m ls kind 0 new before now
-begun m ls kind old new before now empty (r, is, more, told) =
+pub begun : (m : Meanings) (ls : List source.Numbered) (on : List Name) (kind : Kind) (old new : List Reply) (before now : SinkTold) → old ≡ [] →
+    TellsOne (λ r. r ≡ creation (lines_of ls)) old new before now (Ok tt) → GoneOn m ls on kind 0 new before now
+begun m ls on kind old new before now empty (r, is, more, told) =
     let one : new ≡ r ∷ [] = more ∙ ap (λ (l : List Reply). l ++ r ∷ []) empty in
     record {
       answered = record { answers = []; asked = []; are = one ∙ ap (λ (q : Reply). q ∷ []) is; split = refl; answered = refl };
@@ -161,9 +161,9 @@ asks_none (source_lines.Eq label u v) none labels = refl
 asks_none (source_lines.Assume label c) none labels = refl
 asks_none (source_lines.Claim label shift c) none labels = absurd (none label shift c refl)
 
-module _ (m : Meanings) (ls : List source.Numbered) (kind : Kind) (k : ℕ) (n : source.Numbered) (within : k < length ls) (is : n ≡ get_or ls k n) where
+module _ (m : Meanings) (ls : List source.Numbered) (on : List Name) (kind : Kind) (k : ℕ) (n : source.Numbered) (within : k < length ls) (is : n ≡ get_or ls k n) where
   pub passed_over : (replies : List Reply) (before now : SinkTold) → ((labels : List Name) → onto_labels (line_of n.line) labels ≡ labels) →
-      GoneOn m ls kind k replies before now → GoneOn m ls kind (k + 1) replies before now
+      GoneOn m ls on kind k replies before now → GoneOn m ls on kind (k + 1) replies before now
   passed_over replies before now none g =
       let a = g.answered in
       let same : claim_labels (rest_of ls k) ≡ claim_labels (rest_of ls (k + 1)) = line_ahead ls k n within is ∙ none (claim_labels (rest_of ls (k + 1))) in
@@ -172,7 +172,7 @@ module _ (m : Meanings) (ls : List source.Numbered) (kind : Kind) (k : ℕ) (n :
           answers = a.answers;
           asked = a.asked;
           are = a.are;
-          split = ap (λ (l : List Name). a.asked ++ map (question_about (name_in (lines_of ls)) kind) l) (sym same) ∙ a.split;
+          split = ap (λ (l : List Name). a.asked ++ map (question_about (name_in (lines_of ls)) on kind) l) (sym same) ∙ a.split;
           answered = a.answered;
         };
         told = g.told;
@@ -186,46 +186,46 @@ module _ (m : Meanings) (ls : List source.Numbered) (kind : Kind) (k : ℕ) (n :
     is_own = line_own ls k n label shift c within is line
 
     pub answered_claim : (old new : List Reply) (before now later : SinkTold) →
-        TellsOne (Answers m (lines_of ls) (question_about (name_in (lines_of ls)) kind label)) old new now later (Ok tt) →
-        GoneOn m ls kind k old before now → GoneOn m ls kind (k + 1) new before later
+        TellsOne (Replies m (lines_of ls) (question_about (name_in (lines_of ls)) on kind label)) old new now later (Ok tt) →
+        GoneOn m ls on kind k old before now → GoneOn m ls on kind (k + 1) new before later
     answered_claim old new before now later (r, answers, more, told) g = record {
-      answered = answered_more m (lines_of ls) kind (rest_of ls k) label old new r answers more (rest_of ls (k + 1)) ahead g.answered;
+      answered = answered_more m (lines_of ls) on kind (rest_of ls k) label old new r answers more (rest_of ls (k + 1)) ahead g.answered;
       told = subst (λ (l : List Reply). TookReplies l before later) (sym more) (took_more old r before now later g.told told);
     }
 
     pub halted : (h : Halt) (old new : List Reply) (before now later : SinkTold) →
-        TellsOne (Answers m (lines_of ls) (question_about (name_in (lines_of ls)) kind label)) old new now later (Err h) →
-        GoneOn m ls kind k old before now →
-        TellsAll (AreReplies m (lines_of ls) kind) (AreFirstReplies m (lines_of ls) kind) new before later (Err h)
+        TellsOne (Replies m (lines_of ls) (question_about (name_in (lines_of ls)) on kind label)) old new now later (Err h) →
+        GoneOn m ls on kind k old before now →
+        TellsAll (AreReplies m (lines_of ls) on kind) (AreFirstReplies m (lines_of ls) on kind) new before later (Err h)
     halted Unwritten old new before now later (r, answers, more, cut) g = (
-      first_replies m (lines_of ls) kind (rest_of ls (k + 1)) new
-          (answered_more m (lines_of ls) kind (rest_of ls k) label old new r answers more (rest_of ls (k + 1)) ahead g.answered),
+      first_replies m (lines_of ls) on kind (rest_of ls (k + 1)) new
+          (answered_more m (lines_of ls) on kind (rest_of ls k) label old new r answers more (rest_of ls (k + 1)) ahead g.answered),
       cut_last old new r before now later more g.told cut,
     )
     halted NoMemory old new before now later (same, stands) g = (
-      subst (AreFirstReplies m (lines_of ls) kind) (sym same) (first_replies m (lines_of ls) kind (rest_of ls k) old g.answered),
+      subst (AreFirstReplies m (lines_of ls) on kind) (sym same) (first_replies m (lines_of ls) on kind (rest_of ls k) old g.answered),
       subst (λ (s : SinkTold). TookReplies new before s) (sym stands) (subst (λ (l : List Reply). TookReplies l before now) (sym same) g.told),
     )
 
-pub halted_at_once : (m : Meanings) (lines : List Numbered) (kind : Kind) (h : Halt) (old new : List Reply) (before now : SinkTold) → old ≡ [] →
+pub halted_at_once : (m : Meanings) (lines : List Numbered) (on : List Name) (kind : Kind) (h : Halt) (old new : List Reply) (before now : SinkTold) → old ≡ [] →
     TellsOne (λ r. r ≡ creation lines) old new before now (Err h) →
-    TellsAll (AreReplies m lines kind) (AreFirstReplies m lines kind) new before now (Err h)
-halted_at_once m lines kind Unwritten old new before now empty (r, is, more, cut) =
+    TellsAll (AreReplies m lines on kind) (AreFirstReplies m lines on kind) new before now (Err h)
+halted_at_once m lines on kind Unwritten old new before now empty (r, is, more, cut) =
     let one : new ≡ r ∷ [] = more ∙ ap (λ (l : List Reply). l ++ r ∷ []) empty in (
-      subst (AreFirstReplies m lines kind) (sym (one ∙ ap (λ (q : Reply). q ∷ []) is)) (refl, ([], questions_of lines kind, refl, refl)),
+      subst (AreFirstReplies m lines on kind) (sym (one ∙ ap (λ (q : Reply). q ∷ []) is)) (refl, ([], questions_of lines on kind, refl, refl)),
       cut_last [] new r before before now one refl cut,
     )
-halted_at_once m lines kind NoMemory old new before now empty (same, stands) =
+halted_at_once m lines on kind NoMemory old new before now empty (same, stands) =
     let are : new ≡ [] = same ∙ empty in (
-      subst (AreFirstReplies m lines kind) (sym are) tt,
+      subst (AreFirstReplies m lines on kind) (sym are) tt,
       subst (λ (l : List Reply). TookReplies l before now) (sym are) stands,
     )
 
-pub answered_all : (m : Meanings) (ls : List source.Numbered) (kind : Kind) (k : ℕ) (replies : List Reply) (before now : SinkTold) → length ls ≤ k →
-    GoneOn m ls kind k replies before now →
-    TellsAll (AreReplies m (lines_of ls) kind) (AreFirstReplies m (lines_of ls) kind) replies before now (Ok tt)
-answered_all m ls kind k replies before now end g = (
-  all_replies m (lines_of ls) kind replies (subst (λ (l : List source.Numbered). AnsweredTo m (lines_of ls) kind (lines_of l) replies) (drop_all k ls end) g.answered),
+pub answered_all : (m : Meanings) (ls : List source.Numbered) (on : List Name) (kind : Kind) (k : ℕ) (replies : List Reply) (before now : SinkTold) → length ls ≤ k →
+    GoneOn m ls on kind k replies before now →
+    TellsAll (AreReplies m (lines_of ls) on kind) (AreFirstReplies m (lines_of ls) on kind) replies before now (Ok tt)
+answered_all m ls on kind k replies before now end g = (
+  all_replies m (lines_of ls) on kind replies (subst (λ (l : List source.Numbered). AnsweredTo m (lines_of ls) on kind (lines_of l) replies) (drop_all k ls end) g.answered),
   g.told,
 )
 

@@ -5,7 +5,7 @@ use Rattle.theory_words.specs.Commands.{Command, check, derive, IsCommand, IsNoC
 
 -- the name of the file of a command
 abbrev pub file_of : Command → List ℕ
-file_of (check file kind) = file
+file_of (check file kind on) = file
 file_of (derive file) = file
 
 -- what a run is given: words for which memory was wanting, no command, or a command whose file wasn't asked for, gave no

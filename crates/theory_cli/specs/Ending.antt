@@ -6,25 +6,25 @@ use Rattle.theory_edge.specs.Sinks.{SinkTold}
 use Rattle.theory_session.specs.Printed.{line_end}
 use Rattle.theory_words.specs.Commands.{Command, check, derive}
 use Rattle.theory_cli.specs.declared.status.Status.{Status}
-use Rattle.theory_cli.specs.declared.status.Status.TheVariants.{Finished, Undecided, NoCommand, Refused, Unread, Unwritten, NoMemory}
+use Rattle.theory_cli.specs.declared.status.Status.TheVariants.{Finished, Unsettled, NoCommand, Refused, Unread, Unwritten, NoMemory}
 use Rattle.theory_cli.specs.Command.{Given, no_words, no_command, not_asked, no_bytes, gave, file_of}
-use Rattle.theory_cli.specs.Refusal.{IsRefusal}
+use Rattle.theory_cli.specs.TextRefusal.{IsTextRefusal}
 use Rattle.theory_cli.specs.Taking.{IsTold, IsCutOff}
 
 -- the exit status of a program that ended so
 abbrev pub exit_number : Status → ℕ
 exit_number Finished = 0
-exit_number Undecided = 1
+exit_number Unsettled = 1
 exit_number NoCommand = 2
 exit_number Refused = 3
 exit_number Unread = 5
 exit_number Unwritten = 6
 exit_number NoMemory = 9
 
--- the command may leave a claim undecided: only a check does
-abbrev pub MayLeaveUndecided : Command → Type 0
-MayLeaveUndecided (check file kind) = Unit {0}
-MayLeaveUndecided (derive file) = ⊥
+-- the command may end with a reply that is open: only a check does
+abbrev pub MayEndUnsettled : Command → Type 0
+MayEndUnsettled (check file kind on) = Unit {0}
+MayEndUnsettled (derive file) = ⊥
 
 -- the end that may come of what was given, before it is told on err, with the files before and after
 abbrev pub IsCause : Given → FilesTold → FilesTold → Status → Type 0
@@ -34,8 +34,8 @@ IsCause (not_asked c) before now NoMemory = Unit {0}
 IsCause (no_bytes c) before now NoMemory = Unit {0}
 IsCause (no_bytes c) before now Unread = Rose before.faults now.faults
 IsCause (gave c bytes) before now Finished = Unit {0}
-IsCause (gave c bytes) before now Undecided = MayLeaveUndecided c
-IsCause (gave c bytes) before now Refused = (told : List ℕ) × IsRefusal bytes told
+IsCause (gave c bytes) before now Unsettled = MayEndUnsettled c
+IsCause (gave c bytes) before now Refused = (told : List ℕ) × IsTextRefusal bytes told
 IsCause (gave c bytes) before now Unwritten = Unit {0}
 IsCause (gave c bytes) before now NoMemory = Unit {0}
 IsCause given before now reached = ⊥
@@ -51,7 +51,7 @@ no_command_line = codes "theory: these words are no command" ++ line_end
 -- the line on err that goes with an end
 abbrev pub IsErrLine : Given → Status → List ℕ → Type 0
 IsErrLine given NoCommand line = line ≡ no_command_line
-IsErrLine (gave c bytes) Refused line = (told : List ℕ) × IsRefusal bytes told × (line ≡ file_of c ++ told ++ line_end)
+IsErrLine (gave c bytes) Refused line = (told : List ℕ) × IsTextRefusal bytes told × (line ≡ file_of c ++ told ++ line_end)
 IsErrLine (no_bytes c) Unread line = line ≡ codes "theory: cannot read " ++ file_of c ++ line_end
 IsErrLine given NoMemory line = line ≡ no_memory_line
 IsErrLine given reached line = ⊥
@@ -64,6 +64,6 @@ IsWritten meant line before now status =
 -- the end that was reached is told on err by its line; one that has none leaves err as it was
 abbrev pub IsReported : Given → Status → SinkTold → SinkTold → Status → Type 0
 IsReported given Finished before now status = (status ≡ Finished) × (now ≡ before)
-IsReported given Undecided before now status = (status ≡ Undecided) × (now ≡ before)
+IsReported given Unsettled before now status = (status ≡ Unsettled) × (now ≡ before)
 IsReported given Unwritten before now status = (status ≡ Unwritten) × (now ≡ before)
 IsReported given reached before now status = (line : List ℕ) × IsErrLine given reached line × IsWritten reached line before now status

@@ -10,7 +10,7 @@ pub use Rattle.theory_session.specs.Derive
 pub use Rattle.theory_session.specs.Printed
 pub use Rattle.theory_words.specs.Commands
 pub mod Plain
-pub mod Refusal
+pub mod TextRefusal
 pub mod Session
 pub mod Taking
 pub mod Command

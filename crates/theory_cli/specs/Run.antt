@@ -5,13 +5,13 @@ use Rattle.theory_meaning.specs.Faults.{Rose}
 use Rattle.theory_meaning.specs.Text.{Numbered}
 use Rattle.theory_edge.specs.Files.{FilesTold}
 use Rattle.theory_edge.specs.Sinks.{SinkTold}
-use Rattle.theory_session.specs.Run.{Reply, some_undecided}
+use Rattle.theory_session.specs.Run.{Reply, some_open}
 use Rattle.theory_words.specs.Commands.{Command, IsCommand, IsNoCommand}
 use Rattle.theory_cli.specs.declared.status.Status.{Status}
-use Rattle.theory_cli.specs.declared.status.Status.TheVariants.{Finished, Undecided, NoCommand, Refused, Unwritten, NoMemory}
+use Rattle.theory_cli.specs.declared.status.Status.TheVariants.{Finished, Unsettled, NoCommand, Refused, Unwritten, NoMemory}
 use Rattle.theory_cli.specs.Command.{Given, gave, AreWords, IsGiven, IsAsked}
 use Rattle.theory_cli.specs.Ending.{IsCause, IsReported}
-use Rattle.theory_cli.specs.Refusal.{IsRefusal, SpellsModel}
+use Rattle.theory_cli.specs.TextRefusal.{IsTextRefusal, SpellsModel}
 use Rattle.theory_cli.specs.Session.{AreReplies, AreFirstReplies}
 use Rattle.theory_cli.specs.Taking.{TookReplies, CutInLast}
 
@@ -27,8 +27,8 @@ OfModel bytes IsMet = (lines : List Numbered) × SpellsModel bytes lines × IsMe
 
 -- all replies of the command to the model that was given at the end, a beginning of them where a run stopped on the way, and else none
 abbrev pub AreMade : Meanings → Given → Status → List Reply → Type 0
-AreMade m (gave c bytes) Finished replies = OfModel bytes (λ lines. AreReplies m c lines replies) × (some_undecided replies ≡ false)
-AreMade m (gave c bytes) Undecided replies = OfModel bytes (λ lines. AreReplies m c lines replies) × (some_undecided replies ≡ true)
+AreMade m (gave c bytes) Finished replies = OfModel bytes (λ lines. AreReplies m c lines replies) × (some_open replies ≡ false)
+AreMade m (gave c bytes) Unsettled replies = OfModel bytes (λ lines. AreReplies m c lines replies) × (some_open replies ≡ true)
 AreMade m (gave c bytes) Unwritten replies = OfModel bytes (λ lines. AreFirstReplies m c lines replies)
 AreMade m (gave c bytes) NoMemory replies = (replies ≡ []) ⊎ OfModel bytes (λ lines. AreFirstReplies m c lines replies)
 AreMade m given reached replies = replies ≡ []
@@ -40,12 +40,12 @@ IsOutput reached replies before now = TookReplies replies before now
 
 -- the run ended with all replies of its command
 abbrev pub IsAnswered : Status → Type 0
-IsAnswered status = (status ≡ Finished) ⊎ (status ≡ Undecided)
+IsAnswered status = (status ≡ Finished) ⊎ (status ≡ Unsettled)
 
 -- bytes that spell a model aren't refused, and bytes that are refused aren't answered
 abbrev pub IsDecided : Given → Status → Type 0
 IsDecided (gave c bytes) status =
-    (OfModel bytes (λ lines. Unit {0}) → status ≢ Refused) × ((told : List ℕ) → IsRefusal bytes told → ¬ IsAnswered status)
+    (OfModel bytes (λ lines. Unit {0}) → status ≢ Refused) × ((told : List ℕ) → IsTextRefusal bytes told → ¬ IsAnswered status)
 IsDecided given status = Unit {0}
 
 -- no count of faults rose

@@ -3,13 +3,13 @@ use Rattle.std.specs.Prelude.{◌≡◌, ◌⊎◌, ℕ, List, ◌++◌, Option,
 use Rattle.theory_meaning.specs.Faults.{Rose}
 use Rattle.theory_edge.specs.Files.{FilesTold}
 use Rattle.theory_edge.specs.Sinks.{SinkTold}
-use Rattle.theory_session.specs.Run.{Reply, some_undecided}
+use Rattle.theory_session.specs.Run.{Reply, some_open}
 use Rattle.theory_session.specs.Printed.{line_end}
 use Rattle.theory_words.specs.Commands.{Command}
 use Rattle.theory_cli.specs.declared.status.Status.{Status}
 use Rattle.theory_cli.specs.declared.status.Status.TheVariants as status
-use Rattle.theory_cli.specs.declared.refusal.Refusal.{Refusal}
-use Rattle.theory_cli.specs.declared.refusal.Refusal.TheVariants as refusal
+use Rattle.theory_cli.specs.declared.text_refusal.TextRefusal.{TextRefusal}
+use Rattle.theory_cli.specs.declared.text_refusal.TextRefusal.TheVariants as refusal
 use Rattle.theory_cli.specs.declared.running.Stop.{Stop}
 use Rattle.theory_cli.specs.declared.running.Stop.TheVariants.{Refused, Unread, Unwritten, NoMemory}
 use Rattle.theory_model.specs.Checked as model
@@ -18,18 +18,18 @@ use Rattle.theory_meaning.specs.Deciding.{Meanings}
 use Rattle.theory_syntax.specs.Plain.{lines_of}
 use Rattle.theory_syntax.specs.declared.text.Numbered as source
 use Rattle.theory_cli.specs.Command.{file_of, Given, no_words, no_command, not_asked, no_bytes, gave, IsGiven, IsAsked}
-use Rattle.theory_cli.specs.Refusal.{text_fault_text, model_fault_text, IsRefusal, SpellsModel}
+use Rattle.theory_cli.specs.TextRefusal.{text_fault_text, model_fault_text, IsTextRefusal, SpellsModel}
 use Rattle.theory_cli.specs.Ending.{IsCause, IsErrLine, IsWritten, no_memory_line}
 use Rattle.theory_cli.specs.Run.{AreMade, IsOutput}
 
 -- what is told of a refusal behind the name of the file
-abbrev pub refusal_text : Refusal → List ℕ
-refusal_text (refusal.Text error) = text_fault_text (text.fault_of error)
-refusal_text (refusal.Model fault) = model_fault_text (model.fault_of fault)
+abbrev pub text_refusal_text : TextRefusal → List ℕ
+text_refusal_text (refusal.Text error) = text_fault_text (text.fault_of error)
+text_refusal_text (refusal.Model fault) = model_fault_text (model.fault_of fault)
 
 -- why these bytes give no model
 abbrev pub StopsAt : List ℕ → Stop → Type 0
-StopsAt bytes (Refused r) = IsRefusal bytes (refusal_text r)
+StopsAt bytes (Refused r) = IsTextRefusal bytes (text_refusal_text r)
 StopsAt bytes Unread = ⊥
 StopsAt bytes Unwritten = ⊥
 StopsAt bytes NoMemory = Unit {0}
@@ -74,7 +74,7 @@ meant_by NoMemory = status.NoMemory
 
 -- the end of a run with all its replies
 abbrev pub ended_with : List Reply → Status
-ended_with replies = if some_undecided replies then status.Undecided else status.Finished
+ended_with replies = if some_open replies then status.Unsettled else status.Finished
 
 -- the end that a run reached
 abbrev pub reached_by : List Reply → Result (Unit {0}) Stop → Status
@@ -83,7 +83,7 @@ reached_by replies (Err stop) = meant_by stop
 
 -- the line on err that goes with a stop of a run on this file
 abbrev pub stop_line : List ℕ → Stop → List ℕ
-stop_line file (Refused r) = file ++ refusal_text r ++ line_end
+stop_line file (Refused r) = file ++ text_refusal_text r ++ line_end
 stop_line file Unread = codes "theory: cannot read " ++ file ++ line_end
 stop_line file Unwritten = no_memory_line
 stop_line file NoMemory = no_memory_line

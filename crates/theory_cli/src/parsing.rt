@@ -8,8 +8,8 @@ ghost use Rattle.theory_model.specs.Checked as checked;
 ghost use Rattle.theory_text.specs.Answers as answers;
 ghost use Rattle.theory_cli.specs.Running.{StopsAt, IsParsed};
 
-use crate::refusal::Refusal;
 use crate::running::Stop;
+use crate::text_refusal::TextRefusal;
 use std::alloc::Global;
 use theory_model::{Model, ModelFault, ModelKind, check};
 use theory_text::{TextError, TextKind, read_text};
@@ -35,7 +35,7 @@ fn text_stop(error: TextError) -> Stop
 {
     match error.kind {
         TextKind::Memory => Stop::NoMemory,
-        _ => Stop::Refused(Refusal::Text(error)),
+        _ => Stop::Refused(TextRefusal::Text(error)),
     }
 }
 
@@ -46,6 +46,6 @@ fn model_stop(fault: ModelFault) -> Stop
 {
     match fault.kind {
         ModelKind::Memory => Stop::NoMemory,
-        _ => Stop::Refused(Refusal::Model(fault)),
+        _ => Stop::Refused(TextRefusal::Model(fault)),
     }
 }

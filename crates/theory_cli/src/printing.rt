@@ -1,12 +1,13 @@
 ghost use Rattle.std.specs.Prelude.{◌≡◌, ◌++◌, IfOk, OnOk, option_map, codes, decimal};
 ghost use Rattle.std.specs.Fmt.{signed_decimal};
-ghost use Rattle.theory_verdict.specs.Plain.{cause_of, half_of};
+ghost use Rattle.theory_verdict.specs.Plain.{cause_of, half_of, region_of};
 ghost use Rattle.theory_session.specs.Printed.{entry_text, further_text, point_text, cause_text, half_text, subject_text, question_text, half_line, halves_text, region_text, region_line, created_text, answer_text, reply_text, line_end};
 ghost use Rattle.theory_meaning.specs.Printed.{fraction_text, verdict_text};
-ghost use Rattle.theory_cli.specs.Plain.{region_of, answer_of, reply_of};
+ghost use Rattle.theory_cli.specs.Plain.{answer_of, reply_of};
 
 use crate::causes::add_cause;
 use crate::derived::derived_lines;
+use crate::refused::refused_line;
 use crate::reply::{Created, Reply};
 use std::alloc::Global;
 use theory_points::{Bytes, Frac, Name, Names, NoMemory, Point};
@@ -20,6 +21,7 @@ pub fn print(alloc: Global, reply: &Reply) -> Result<Bytes, NoMemory>
     match reply {
         Reply::Created(created) => created_line(alloc, created),
         Reply::Answered(answer) => answer_lines(alloc, answer),
+        Reply::Refused(refusal) => refused_line(alloc, *refusal),
         Reply::Derived(equations) => derived_lines(alloc, equations.as_slice()),
     }
 }

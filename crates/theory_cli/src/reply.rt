@@ -15,11 +15,26 @@ pub struct Created {
     pub version: u32,
 }
 
+/// Why a question is refused.
+#[derive(Clone, Copy, Debug, PartialEq, Eq)]
+pub enum AskFault {
+    /// The name at this place, from 1, of those on which the condition is wanted isn't listed.
+    UnknownName(usize),
+}
+
+/// Why a request is refused.
+#[derive(Clone, Copy, Debug, PartialEq, Eq)]
+pub enum Refusal {
+    /// A fault of the question.
+    Ask(AskFault),
+}
+
 /// What the program answers to one step.
 #[derive(Drop)]
 pub enum Reply {
     Created(Created),
     Answered(Answer),
+    Refused(Refusal),
     /// The equations of a model, differentiated along each parameter.
     Derived(Vec<Differentiated>),
 }

@@ -1,11 +1,11 @@
 ghost use Rattle.std.specs.Prelude.{◌≡◌, ◌++◌, IfOk, codes};
 ghost use Rattle.theory_session.specs.Printed.{line_end};
 ghost use Rattle.theory_cli.specs.Ending.{IsWritten, no_command_line, no_memory_line};
-ghost use Rattle.theory_cli.specs.Running.{Reports, refusal_text};
+ghost use Rattle.theory_cli.specs.Running.{Reports, text_refusal_text};
 
-use crate::refusal::{Refusal, add_refusal};
 use crate::running::Stop;
 use crate::status::Status;
+use crate::text_refusal::{TextRefusal, add_text_refusal};
 use std::alloc::Global;
 use theory_edge::Sink;
 use theory_points::{Bytes, NoMemory};
@@ -56,12 +56,12 @@ fn write_line<E: Sink>(line: &[u8], meant: Status, err: &mut E) -> Status
     }
 }
 
-fn refused(alloc: Global, file: &str, refusal: Refusal) -> Result<Bytes, NoMemory>
+fn refused(alloc: Global, file: &str, refusal: TextRefusal) -> Result<Bytes, NoMemory>
     ensures { IfOk result (λ text. text ≡
-        file.now ++ refusal_text refusal ++ line_end) }
+        file.now ++ text_refusal_text refusal ++ line_end) }
 {
     let mut text = Bytes::from_slice(alloc, file.as_bytes())?;
-    add_refusal(alloc, &mut text, refusal)?;
+    add_text_refusal(alloc, &mut text, refusal)?;
     text.extend(b"\n")?;
     Ok(text)
 }

@@ -8,11 +8,11 @@ ghost use Rattle.theory_cli.specs.Run.{IsRun};
 ghost use Rattle.theory_cli.specs.Running.{ReadsFile, IsCarriedOut};
 
 use crate::parsing::parse;
-use crate::refusal::Refusal;
 use crate::reply::{Outcome, Replies};
 use crate::report::report;
 use crate::session::{Halt, reply_to};
 use crate::status::{Status, ended_with};
+use crate::text_refusal::TextRefusal;
 use std::alloc::Global;
 use theory_edge::{EndFault, Files, Sink};
 use theory_model::Model;
@@ -23,7 +23,7 @@ use theory_words::Command;
 #[derive(Clone, Copy, Debug, PartialEq, Eq)]
 pub enum Stop {
     /// The text or its model is refused.
-    Refused(Refusal),
+    Refused(TextRefusal),
     /// The file can't be read.
     Unread,
     /// A write to out failed.

@@ -10,15 +10,15 @@ ghost use Rattle.theory_words.specs.Reading.{command_of};
 ghost use Rattle.theory_cli.specs.Plain.{reply_of, replies_of};
 ghost use Rattle.theory_cli.specs.Telling.{Tells, TellsOne, TellsAll, Answers};
 
-use crate::answer::{FIRST_VERSION, answer, model_name};
+use crate::answer::{FIRST_VERSION, model_name, reply};
+use crate::names::chosen_names;
 use crate::printing::print;
 use crate::reply::{Created, Replies, Reply};
 use std::alloc::Global;
 use theory_edge::Sink;
-use theory_meaning::Kind;
 use theory_model::{Model, text_of};
-use theory_points::{Name, NoMemory};
-use theory_search::Policies;
+use theory_points::{Name, Names, NoMemory};
+use theory_search::{Policies, Policy};
 use theory_statics::differentiated;
 use theory_syntax::Line;
 use theory_words::Command;
@@ -57,24 +57,27 @@ pub fn reply_to<O: Sink>(
         (O.told out.old) (O.told out.new) result }
 {
     match command {
-        Command::Check { order, .. } => reply_to_check(alloc, model, order, policies, out, replies),
+        Command::Check { order, on, .. } => {
+            let names = chosen_names(alloc, on)?;
+            reply_to_check(alloc, model, &names, policies.policy(order), out, replies)
+        }
         Command::Derive { .. } => reply_to_derive(alloc, model, out, replies),
     }
 }
 
-// The creation first, and then each answer.
+// The creation first, and then the reply about each claim.
 fn reply_to_check<O: Sink>(
     alloc: Global,
     model: &Model,
-    kind: Kind,
-    policies: &Policies,
+    on: &Names,
+    policy: &Policy,
     out: &mut O,
     replies: &mut Replies,
 ) -> Result<(), Halt>
     requires { replies.old ≡ [] }
-    ensures { TellsAll (session.AreReplies engine (lines_of model.now) kind)
-        (session.AreFirstReplies engine (lines_of model.now) kind) (replies_of replies.new)
-        (O.told out.old) (O.told out.new) result }
+    ensures { TellsAll (session.AreReplies engine (lines_of model.now) on.now policy.now.kind)
+        (session.AreFirstReplies engine (lines_of model.now) on.now policy.now.kind)
+        (replies_of replies.new) (O.told out.old) (O.told out.new) result }
 {
     if let Err(halt) = tell_creation(alloc, model, out, replies) {
         return Err(halt);
@@ -82,7 +85,7 @@ fn reply_to_check<O: Sink>(
     for numbered in text_of(model) {
         match &numbered.line {
             Line::Claim(label, _, _) => {
-                if let Err(halt) = tell_answer(alloc, model, label, kind, policies, out, replies) {
+                if let Err(halt) = tell_reply(alloc, model, label, on, policy, out, replies) {
                     return Err(halt);
                 }
             }
@@ -135,22 +138,22 @@ fn tell_creation<O: Sink>(
     tell(alloc, Reply::Created(created), out, replies)
 }
 
-fn tell_answer<O: Sink>(
+fn tell_reply<O: Sink>(
     alloc: Global,
     model: &Model,
     label: &Name,
-    kind: Kind,
-    policies: &Policies,
+    on: &Names,
+    policy: &Policy,
     out: &mut O,
     replies: &mut Replies,
 ) -> Result<(), Halt>
     requires { is_some (claim_in (lines_of model.now) label.now) ≡ true }
-    ensures { TellsOne (session.Answers engine (lines_of model.now)
-        (question_about (name_in (lines_of model.now)) kind label.now)) (replies_of replies.old)
-        (replies_of replies.new) (O.told out.old) (O.told out.new) result }
+    ensures { TellsOne (session.Replies engine (lines_of model.now)
+        (question_about (name_in (lines_of model.now)) on.now policy.now.kind label.now))
+        (replies_of replies.old) (replies_of replies.new) (O.told out.old) (O.told out.new) result }
 {
-    let answered = answer(alloc, model, label, policies, kind)?;
-    tell(alloc, Reply::Answered(answered), out, replies)
+    let made = reply(alloc, model, label, on, policy)?;
+    tell(alloc, made, out, replies)
 }
 
 // Makes the print of a reply, keeps the reply, and writes its print once.

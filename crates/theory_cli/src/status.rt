@@ -10,10 +10,10 @@ use theory_meaning::Verdict;
 /// How a run ended.
 #[derive(Clone, Copy, Debug, PartialEq, Eq)]
 pub enum Status {
-    /// Every reply was made and written, and no claim is undecided.
+    /// Every reply was made and written, and none is open.
     Finished,
-    /// Every reply was made and written, and some claim is undecided.
-    Undecided,
+    /// Every reply was made and written, and some is open: a refusal, or its claim is undecided.
+    Unsettled,
     /// The words are no command.
     NoCommand,
     /// The text of the file or its model is refused.
@@ -33,7 +33,7 @@ impl Status {
     {
         match self {
             Status::Finished => 0,
-            Status::Undecided => 1,
+            Status::Unsettled => 1,
             Status::NoCommand => 2,
             Status::Refused => 3,
             Status::Unread => 5,
@@ -47,30 +47,31 @@ impl Status {
 pub fn ended_with(replies: &Replies) -> Status
     ensures { result ≡ running.ended_with (replies_of replies.now) }
 {
-    if some_undecided(replies.as_slice()) {
-        Status::Undecided
+    if some_open(replies.as_slice()) {
+        Status::Unsettled
     } else {
         Status::Finished
     }
 }
 
-fn some_undecided(replies: &[Reply]) -> bool
-    ensures { result ≡ session.some_undecided (replies_of replies.now) }
+fn some_open(replies: &[Reply]) -> bool
+    ensures { result ≡ session.some_open (replies_of replies.now) }
 {
     for reply in replies {
-        if is_undecided(reply) {
+        if is_open(reply) {
             return true;
         }
     }
     false
 }
 
-fn is_undecided(reply: &Reply) -> bool
-    ensures { result ≡ session.is_undecided (reply_of reply.now) }
+fn is_open(reply: &Reply) -> bool
+    ensures { result ≡ session.is_open (reply_of reply.now) }
 {
     match reply {
         Reply::Created(_) | Reply::Derived(_) => false,
         Reply::Answered(answer) => is_left(answer.verdict),
+        Reply::Refused(_) => true,
     }
 }
 

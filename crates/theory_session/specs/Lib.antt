@@ -1,7 +1,10 @@
 pub mod Create
 pub mod Ask
+pub mod Names
 pub mod Answered
 pub mod Run
 pub mod Check
 pub mod Derive
 pub mod Printed
+pub mod Meaning
+pub mod WorkedCondition

@@ -5,11 +5,12 @@ use Rattle.theory_meaning.specs.declared.words.Verdict.{Verdict}
 use Rattle.theory_meaning.specs.Point.{Name, Point, value_at}
 use Rattle.theory_meaning.specs.Printed.{fraction_text, verdict_text}
 use Rattle.theory_meaning.specs.Half.{Cause, stuck, wide, large, budget, many_leaves, Half, found, found_wide, absent, left}
+use Rattle.theory_meaning.specs.Region.{Region, known, unknown}
 use Rattle.theory_meaning.specs.Tree.{Claim}
 use Rattle.theory_grammar.specs.Printed.{claim_text, sides_text}
 use Rattle.theory_derivative.specs.Differentiated.{Differentiated}
-use Rattle.theory_session.specs.Ask.{Region, known, unknown, Answer}
-use Rattle.theory_session.specs.Run.{Reply, created, answered, derived}
+use Rattle.theory_session.specs.Ask.{Answer, AskFault, unknown_name}
+use Rattle.theory_session.specs.Run.{Refusal, of_question, Reply, created, answered, refused, derived}
 
 -- a name with its value
 abbrev pub entry_text : Point → Name → List ℕ
@@ -93,6 +94,18 @@ abbrev pub answer_text : Answer → List ℕ
 answer_text a =
     question_text a.model a.version a.claim a.verdict ++ halves_text a.symbols a.example a.counter ++ region_line a.region
 
+-- why a question is refused
+abbrev pub fault_text : AskFault → List ℕ
+fault_text (unknown_name place) = codes "UnknownName " ++ decimal place
+
+-- why a request is refused
+abbrev pub refusal_text : Refusal → List ℕ
+refusal_text (of_question fault) = fault_text fault
+
+-- the line of a refusal
+abbrev pub refused_text : Refusal → List ℕ
+refused_text refusal = codes "refused " ++ refusal_text refusal ++ line_end
+
 -- the line of a differentiated equation
 abbrev pub differentiated_text : Differentiated → List ℕ
 differentiated_text d = d.label ++ codes " by " ++ d.by ++ codes ": " ++ sides_text d.left Eq d.right ++ line_end
@@ -106,6 +119,7 @@ derived_text (d ∷ ds) = differentiated_text d ++ derived_text ds
 abbrev pub reply_text : Reply → List ℕ
 reply_text (created model version) = created_text model version
 reply_text (answered a) = answer_text a
+reply_text (refused refusal) = refused_text refusal
 reply_text (derived equations) = derived_text equations
 
 -- the printed forms of replies, one after another

@@ -1,16 +1,21 @@
--- The replies of the desk, and which of them leave a claim undecided.
+-- The replies of the desk, and which of them leave something open.
 use Rattle.std.specs.Prelude.{ℕ, Bool, true, false, List}
 use Rattle.std.specs.List.{list_any}
 use Rattle.theory_meaning.specs.declared.words.Verdict.{Verdict}
 use Rattle.theory_meaning.specs.declared.words.Verdict.TheVariants.{Holds, Fails, Contradictory, Mixed, Undecided}
 use Rattle.theory_meaning.specs.Point.{Name}
 use Rattle.theory_derivative.specs.Differentiated.{Differentiated}
-use Rattle.theory_session.specs.Ask.{Answer}
+use Rattle.theory_session.specs.Ask.{Answer, AskFault}
 
--- a reply: a model was created, with its name and version; the answer to a question; differentiated equations
+-- why a request is refused
+pub data Refusal : Type 0 where
+  of_question : AskFault → Refusal
+
+-- a reply: a model was created, with its name and version; the answer to a question; a refusal; differentiated equations
 pub data Reply : Type 0 where
   created : Name → ℕ → Reply
   answered : Answer → Reply
+  refused : Refusal → Reply
   derived : List Differentiated → Reply
 
 -- the verdict leaves the claim undecided
@@ -21,12 +26,13 @@ is_left Contradictory = false
 is_left Mixed = false
 is_left Undecided = true
 
--- the reply leaves its claim undecided
-abbrev pub is_undecided : Reply → Bool
-is_undecided (created model version) = false
-is_undecided (answered a) = is_left a.verdict
-is_undecided (derived equations) = false
+-- the reply is a refusal, or leaves its claim undecided
+abbrev pub is_open : Reply → Bool
+is_open (created model version) = false
+is_open (answered a) = is_left a.verdict
+is_open (refused r) = true
+is_open (derived equations) = false
 
--- some reply does
-abbrev pub some_undecided : List Reply → Bool
-some_undecided replies = list_any is_undecided replies
+-- some reply is
+abbrev pub some_open : List Reply → Bool
+some_open replies = list_any is_open replies

@@ -6,7 +6,7 @@ use Rattle.clap.specs.declared.parser.matches.Found.{Found}
 use Rattle.clap.proofs.WalkLemmas.{first_value-rows}
 use Rattle.clap.specs.declared.error.kind.ErrorKind.{ErrorKind}
 use Rattle.theory_words.specs.Commands as plain
-use Rattle.theory_words.specs.Commands.{found_in, without_fault, check_of, derive_of, order_of, order_named}
+use Rattle.theory_words.specs.Commands.{found_in, without_fault, check_of, check_of_file, derive_of, order_of, order_named, names_of}
 use Rattle.theory_words.specs.Reading.{IsFoundAs, IsReadAs, command_of}
 use Rattle.theory_words.specs.declared.command.Command.{Command}
 use Rattle.theory_words.specs.declared.command.WordsFault.{WordsFault}
@@ -41,18 +41,20 @@ text_found matches id o h = sym (first_value-rows matches id) ∙ sym h
 
 -- the file and the order, as they are read
 pub check_found : (rows : List Row) (file name : Text) → first_of (codes "file") rows ≡ Some file → first_of (codes "order") rows ≡ Some name
-    → check_of rows ≡ option_map (plain.check file) (order_named name)
-check_found rows file name e h = ap (option_and_then (λ (f : Text). option_map (plain.check f) (order_of rows))) e ∙ ap (λ (o : Option Text). option_map (plain.check file) (option_and_then order_named o)) h
+    → check_of rows ≡ option_map (λ order. plain.check file order (names_of rows)) (order_named name)
+check_found rows file name e h =
+    ap (option_and_then (check_of_file rows)) e
+    ∙ ap (λ (o : Option Text). option_map (λ order. plain.check file order (names_of rows)) (option_and_then order_named o)) h
 
 pub no_file : (rows : List Row) → first_of (codes "file") rows ≡ None → check_of rows ≡ None
-no_file rows e = ap (option_and_then (λ (f : Text). option_map (plain.check f) (order_of rows))) e
+no_file rows e = ap (option_and_then (check_of_file rows)) e
 
 pub no_order : (rows : List Row) → first_of (codes "order") rows ≡ None → check_of rows ≡ None
 no_order rows e = go (first_of (codes "file") rows)
   where
-    go : (o : Option Text) → option_and_then (λ (f : Text). option_map (plain.check f) (order_of rows)) o ≡ None
+    go : (o : Option Text) → option_and_then (check_of_file rows) o ≡ None
     go None = refl
-    go (Some f) = ap (λ (o : Option Text). option_map (plain.check f) (option_and_then order_named o)) e
+    go (Some f) = ap (λ (o : Option Text). option_map (λ order. plain.check f order (names_of rows)) (option_and_then order_named o)) e
 
 -- a simple and free command is simple
 pub simple : (app : App) → is_simple_and_free app ≡ true → is_simple app ≡ true

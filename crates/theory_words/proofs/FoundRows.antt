@@ -20,7 +20,7 @@ use Rattle.clap.specs.declared.builder.value_parser.ValueParser.TheVariants.{Nam
 use Rattle.theory_meaning.specs.declared.words.Kind.{Kind}
 use Rattle.theory_words.specs.Arguments.{order_names}
 use Rattle.theory_words.specs.Commands.{order_named}
-use Rattle.theory_words.proofs.SameNames.{first, second}
+use Rattle.theory_words.proofs.SameNames.{first, second, third}
 
 abbrev pub Each : {X : Type 0} → (X → Type 0) → List X → Type 0
 Each P [] = ⊤
@@ -108,6 +108,12 @@ first_keeps again values rows h g = go values (one_value values (one_wanted (len
   where
     go : (values : List Text) → (text : Text) × (values ≡ text ∷ []) → Each IsGood (used first values rows)
     go values one = subst (λ (vs : List Text). Each IsGood (used first vs rows)) (sym one.1) (set_good (codes "file") AsWritten one.0 rows (λ e. absurd (false≢true e)) g)
+
+pub third_keeps : KeepsGood third
+third_keeps again values rows h g = go values (one_value values (one_wanted (length values) (both_none (range_kinds 1 1 (length values)) _ h).0))
+  where
+    go : (values : List Text) → (text : Text) × (values ≡ text ∷ []) → Each IsGood (used third values rows)
+    go values one = subst (λ (vs : List Text). Each IsGood (used third vs rows)) (sym one.1) (set_good (codes "on") AsWritten one.0 rows (λ e. absurd (false≢true e)) g)
 
 pub second_keeps : KeepsGood (second order_names)
 second_keeps again values rows h g = go (one_value values (one_wanted (length values) (both_none (range_kinds 1 1 (length values)) _ h).0))

@@ -1,5 +1,7 @@
+pub mod BothOptions
 pub mod Found
 pub mod FoundRows
+pub mod Parts
 pub mod PlainWords
 pub mod Refusals
 pub mod SameNames

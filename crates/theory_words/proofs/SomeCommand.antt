@@ -13,12 +13,13 @@ use Rattle.clap.specs.Faults.{settle_fault}
 use Rattle.clap.specs.declared.error.kind.ErrorKind.TheVariants as kind
 use Rattle.clap.specs.declared.parser.matches.ValueSource.TheVariants.{DefaultValue}
 use Rattle.clap.proofs.FaultLemmas.{leaf_fault}
+use Rattle.theory_meaning.specs.declared.words.Kind.{Kind}
 use Rattle.theory_meaning.specs.declared.words.Kind.TheVariants.{Unit as unit}
 use Rattle.theory_words.specs.Arguments.{check_arguments, derive_arguments, order_names}
-use Rattle.theory_words.specs.Commands.{Command, check, derive, check_of, derive_of, without_fault, IsCommand}
+use Rattle.theory_words.specs.Commands.{Command, check, derive, check_of, derive_of, names_of, without_fault, IsCommand}
 use Rattle.theory_words.proofs.Found.{check_found}
-use Rattle.theory_words.proofs.FoundRows.{Each, IsGood, KeepsGood, both_none, first_keeps, second_keeps, settled_good, walk_good, with_value_good}
-use Rattle.theory_words.proofs.SameNames.{first, second}
+use Rattle.theory_words.proofs.FoundRows.{Each, IsGood, KeepsGood, both_none, first_keeps, second_keeps, third_keeps, settled_good, walk_good, with_value_good}
+use Rattle.theory_words.proofs.SameNames.{first, second, third}
 
 -- the row of an argument
 abbrev HasGoodRow : Text → List Row → Type 0
@@ -44,8 +45,8 @@ given id (r ∷ rs) h = go (bytes_eq r.id id) h (given id rs)
     go true h below = refl
     go false h below = below h
 
-has_order : (rows : List Row) → has_row (codes "order") (with_default rows (second order_names)) ≡ true
-has_order rows = go (has_row (codes "order") rows) refl
+has_order : (rows : List Row) → has_row (codes "order") (with_default (with_default rows (second order_names)) third) ≡ true
+has_order rows = still (has_row (codes "on") (with_default rows (second order_names))) (go (has_row (codes "order") rows) refl)
   where
     added : (change : Row → Row) (new : Row) → ((r : Row) → (change r).id ≡ r.id) → new.id ≡ codes "order" → (rs : List Row) → has_row (codes "order") (at_row (codes "order") (λ r. change r ∷ []) (new ∷ []) rs) ≡ true
     added change new same e [] = ap (λ (id : Text). bytes_eq id (codes "order") || false) e
@@ -56,12 +57,24 @@ has_order rows = go (has_row (codes "order") rows) refl
         at true h below = ap (λ (id : Text). bytes_eq id (codes "order") || has_row (codes "order") rs) (same r) ∙ ap (λ (b : Bool). b || has_row (codes "order") rs) h
         at false h below = ap (λ (b : Bool). b || has_row (codes "order") (at_row (codes "order") (λ r. change r ∷ []) (new ∷ []) rs)) h ∙ below
 
+    still : (b : Bool) → has_row (codes "order") (with_default rows (second order_names)) ≡ true
+        → has_row (codes "order") (if b then with_default rows (second order_names) else with_default rows (second order_names)) ≡ true
+    still true h = h
+    still false h = h
+
     go : (b : Bool) → has_row (codes "order") rows ≡ b → has_row (codes "order") (if b then rows else Rattle.clap.specs.Walk.default_rows (codes "order") Rattle.clap.specs.declared.builder.value_parser.Reading.TheVariants.AsWritten (codes "unit" ∷ []) rows) ≡ true
     go true h = h
     go false h = added _ _ (λ r. refl) refl rows
 
 first_good : (rows : List Row) → Each IsGood rows → Each IsGood (with_default rows first)
 first_good rows g = go (has_row (codes "file") rows)
+  where
+    go : (b : Bool) → Each IsGood (if b then rows else rows)
+    go true = g
+    go false = g
+
+third_good : (rows : List Row) → Each IsGood rows → Each IsGood (with_default rows third)
+third_good rows g = go (has_row (codes "on") rows)
   where
     go : (b : Bool) → Each IsGood (if b then rows else rows)
     go true = g
@@ -83,8 +96,11 @@ a_check : (rows : List Row) → Each IsGood rows → has_row (codes "file") rows
 a_check rows g h k =
     let named = good_row (codes "file") rows g h in
     let ordered = good_row (codes "order") rows g k in
-    let order = ordered.1.3 ordered.2 in
-    (check named.1.0 order.0, check_found rows named.1.0 ordered.1.0 (first_text (codes "file") rows named) (first_text (codes "order") rows ordered) ∙ ap (option_map (check named.1.0)) order.1)
+    let order = ordered.1.3 ordered.2 in (
+      check named.1.0 order.0 (names_of rows),
+      check_found rows named.1.0 ordered.1.0 (first_text (codes "file") rows named) (first_text (codes "order") rows ordered)
+          ∙ ap (option_map (λ (o : Kind). check named.1.0 o (names_of rows))) order.1,
+    )
 
 a_derivation : (rows : List Row) → Each IsGood rows → has_row (codes "file") rows ≡ true → (command : Command) × (derive_of rows ≡ Some command)
 a_derivation rows g h = let named = good_row (codes "file") rows g h in (derive named.1.0, ap (option_map derive) (first_text (codes "file") rows named))
@@ -92,13 +108,13 @@ a_derivation rows g h = let named = good_row (codes "file") rows g h in (derive 
 pub some_check : (words : List Text) → fault_of check_arguments words ≡ [] → (command : Command) × IsCommand (codes "check" ∷ words) command
 some_check words h =
     let s = (built check_arguments).top in
-    let keep : Each KeepsGood s.rules = (first_keeps, (second_keeps, tt)) in
+    let keep : Each KeepsGood s.rules = (first_keeps, (second_keeps, (third_keeps, tt))) in
     let end = (fold (walked s.rules []) (walk_from nothing_held) words).held in
     let walked_on = both_none _ _ (sym (leaf_fault (built check_arguments) nothing_held words refl) ∙ h) in
     let used_up = both_none (settle_fault s.rules false end) _ walked_on.1 in
     let checked = both_none _ _ used_up.1 in
     let end_good = walk_good s keep (λ x. refl) words (walk_from nothing_held) tt walked_on.0 in
-    let good = second_good _ (first_good _ (settled_good s keep (λ x. refl) false end end_good used_up.0)) in
+    let good = third_good _ (second_good _ (first_good _ (settled_good s keep (λ x. refl) false end end_good used_up.0))) in
     let found = a_check (finished s.rules end) good (given (codes "file") (finished s.rules end) (wanted _ checked.1)) (has_order (with_default (settled s.rules end).rows first)) in
     (found.0, ap (λ (k : Kinds). option_and_then check_of (without_fault k (finished s.rules end))) h ∙ found.1)
 

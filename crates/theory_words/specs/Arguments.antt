@@ -42,17 +42,21 @@ order names = record (new_rule (codes "order")) {
   defaults = codes "unit" ∷ [];
 }
 
+-- `--on NAMES`: one value, once or not at all; it is cut at its commas afterwards
+abbrev pub on : Rule
+on = record (new_rule (codes "on")) { long = Some (codes "on"); action = Some Set }
+
 -- no argument, no flag for help or a version, and no program's name before the words
 abbrev pub bare : Text → App
 bare name = record (new_app name) {
   top = record (new_app name).top { no_binary_name = true; disable_help_flag = true; disable_version_flag = true };
 }
 
--- `FILE [--order NAME]` with these names
+-- `FILE [--order NAME] [--on NAMES]` with these names of orders
 abbrev pub check_with : Texts → App
-check_with names = with_rule (with_rule (bare (codes "check")) file) (order names)
+check_with names = with_rule (with_rule (with_rule (bare (codes "check")) file) (order names)) on
 
--- what stands behind `check`: `FILE [--order NAME]`
+-- what stands behind `check`: `FILE [--order NAME] [--on NAMES]`
 abbrev pub check_arguments : App
 check_arguments = check_with order_names
 

@@ -1,13 +1,14 @@
 -- The commands of the program, and the words that are read as each: `clap` reads those behind the first.
-use Rattle.std.specs.Prelude.{◌≡◌, List, [], ◌∷◌, Option, Some, None, option_map, option_and_then, find, codes, if◌then◌else◌}
+use Rattle.std.specs.Prelude.{◌≡◌, ◌==◌, ℕ, List, [], ◌∷◌, Option, Some, None, option_map, option_and_then, find, codes, if◌then◌else◌}
+use Rattle.std.specs.List.{slice_split}
 use Rattle.std.specs.Str.{bytes_eq}
 use Rattle.clap.specs.Words.{App, Kinds, Row, Text, first_of, fault_of, matches_of}
 use Rattle.theory_meaning.specs.declared.words.Kind.{Kind}
 use Rattle.theory_words.specs.Arguments.{orders, check_arguments, derive_arguments}
 
--- the check of a file with an order of elimination, or the derivation of a file
+-- the check of a file with an order of elimination and the names on which the condition is wanted, or the derivation of a file
 pub data Command : Type 0 where
-  check : Text → Kind → Command
+  check : Text → Kind → List Text → Command
   derive : Text → Command
 
 -- the order of a name
@@ -18,9 +19,30 @@ order_named name = option_map (λ entry. entry.1) (find (λ entry. bytes_eq entr
 abbrev pub order_of : List Row → Option Kind
 order_of found = option_and_then order_named (first_of (codes "order") found)
 
--- the check of the file and with the order that were found
+-- the byte of `,`
+abbrev pub comma : ℕ
+comma = 44
+
+-- the parts between commas; an empty one stands between two commas, before the first, behind the last, and in the empty text
+abbrev pub parts_at_commas : Text → List Text
+parts_at_commas text = slice_split (λ byte. byte == comma) text
+
+-- the names that the value of `--on` gives; none where it isn't given
+abbrev pub names_given : Option Text → List Text
+names_given None = []
+names_given (Some text) = parts_at_commas text
+
+-- the names that were found
+abbrev pub names_of : List Row → List Text
+names_of found = names_given (first_of (codes "on") found)
+
+-- the check of a file with the order and on the names that were found
+abbrev pub check_of_file : List Row → Text → Option Command
+check_of_file found file = option_map (λ order. check file order (names_of found)) (order_of found)
+
+-- the check of the file that was found
 abbrev pub check_of : List Row → Option Command
-check_of found = option_and_then (λ file. option_map (check file) (order_of found)) (first_of (codes "file") found)
+check_of found = option_and_then (check_of_file found) (first_of (codes "file") found)
 
 -- the derivation of the file that was found
 abbrev pub derive_of : List Row → Option Command

@@ -1,9 +1,9 @@
 -- What calls that read words answer.
-use Rattle.std.specs.Prelude.{◌≡◌, List, Option, Some, None, Result, Ok, Err}
+use Rattle.std.specs.Prelude.{◌≡◌, List, Option, Some, None, option_map, Result, Ok, Err}
 use Rattle.clap.specs.Words.{Row, Text, found_of, rows_of}
 use Rattle.clap.specs.declared.parser.matches.ArgMatches.{ArgMatches}
 use Rattle.theory_words.specs.Commands as plain
-use Rattle.theory_words.specs.Commands.{IsCommand, IsNoCommand}
+use Rattle.theory_words.specs.Commands.{names_given, IsCommand, IsNoCommand}
 use Rattle.theory_words.specs.declared.command.Command.{Command}
 use Rattle.theory_words.specs.declared.command.Command.TheVariants.{Check, Derive}
 use Rattle.theory_words.specs.declared.command.WordsFault.{WordsFault}
@@ -11,7 +11,7 @@ use Rattle.theory_words.specs.declared.command.WordsFault.TheVariants.{NoCommand
 
 -- the command that was read
 abbrev pub command_of : Command → plain.Command
-command_of (Check file order) = plain.check file.now order
+command_of (Check file order on) = plain.check file.now order (names_given (option_map (λ text. text.now) on))
 command_of (Derive file) = plain.derive file.now
 
 -- the words are the command, or no command; want of memory is free

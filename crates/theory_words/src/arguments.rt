@@ -1,6 +1,6 @@
 ghost use Rattle.std.specs.Prelude.{◌≡◌, IfOk, false};
 ghost use Rattle.clap.specs.Words.{app_of, rule_of};
-ghost use Rattle.theory_words.specs.Arguments.{Texts, AreOrderNames, bare, file, order, check_with, derive_arguments};
+ghost use Rattle.theory_words.specs.Arguments.{Texts, AreOrderNames, bare, file, order, on, check_with, derive_arguments};
 
 use clap::{Arg, ArgAction, Command};
 use std::alloc::{AllocError, Global};
@@ -13,7 +13,10 @@ pub fn check_arguments<'a>(alloc: Global) -> Result<Command<'a>, AllocError>
     ensures { IfOk result (λ command. (names : Texts) × AreOrderNames names
         × (app_of command ≡ check_with names)) }
 {
-    bare(alloc, "check").arg(file(alloc))?.arg(order(alloc))
+    bare(alloc, "check")
+        .arg(file(alloc))?
+        .arg(order(alloc))?
+        .arg(on(alloc))
 }
 
 /// What stands behind `derive`.
@@ -50,4 +53,11 @@ fn order<'a>(alloc: Global) -> Arg<'a>
         .action(ArgAction::Set)
         .value_parser(ORDERS.as_slice())
         .default_value("unit")
+}
+
+fn on<'a>(alloc: Global) -> Arg<'a>
+    ensures rule { rule_of result ≡ on }
+    ensures local { result.global ≡ false }
+{
+    Arg::new(alloc, "on").long("on").action(ArgAction::Set)
 }

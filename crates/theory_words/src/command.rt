@@ -30,8 +30,15 @@ impl Error for WordsFault {}
 /// What the words ask for.
 #[derive(Clone, Copy, Debug, PartialEq, Eq)]
 pub enum Command<'a> {
-    /// To answer each claim of the file; symbols are eliminated in the order.
-    Check { file: &'a str, order: Kind },
+    /// To answer each claim of the file; symbols are eliminated in the order. The names on which
+    /// the condition is wanted stand in one text, with a comma between each two.
+    Check {
+        file: &'a str,
+        order: Kind,
+        on: Option<&'a str>,
+    },
     /// To write what follows from the file.
-    Derive { file: &'a str },
+    Derive {
+        file: &'a str,
+    },
 }

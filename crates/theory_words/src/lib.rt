@@ -13,12 +13,13 @@ mod worked;
 
 pub use command::{Command, WordsFault};
 pub use laws::{
-    a_check_is_by_the_order_named, a_check_is_by_unit, a_derivation_is_of_the_file,
+    a_check_is_by_the_order_named, a_check_is_by_unit, a_check_is_on_the_names_given,
+    a_check_may_have_both_options, a_derivation_is_of_the_file, names_stand_between_commas,
     other_words_are_a_command, refused_words_are_no_command, words_are_one_command,
 };
 pub use reading::read_words;
 pub use theory_meaning::Kind;
 pub use worked::{
-    other_first_words, other_forms_of_a_check, refused_derivations, refused_files_of_a_check,
-    refused_orders_of_a_check,
+    names_of_a_check, other_first_words, other_forms_of_a_check, refused_derivations,
+    refused_files_of_a_check, refused_names_of_a_check, refused_orders_of_a_check,
 };

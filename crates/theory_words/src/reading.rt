@@ -69,7 +69,8 @@ fn found_check<'a>(matches: &ArgMatches<'a>) -> Option<Command<'a>>
 {
     let file = matches.get_str("file")?;
     let order = order_named(matches.get_str("order")?)?;
-    Some(Command::Check { file, order })
+    let on = matches.get_str("on");
+    Some(Command::Check { file, order, on })
 }
 
 fn found_derive<'a>(matches: &ArgMatches<'a>) -> Option<Command<'a>>

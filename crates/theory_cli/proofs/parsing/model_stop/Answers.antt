@@ -1,5 +1,5 @@
 use Rattle.theory_model.specs.Checked.{fault_of}
-use Rattle.theory_cli.proofs.RefusalLemmas.{refused_model}
+use Rattle.theory_cli.proofs.TextRefusalLemmas.{refused_model}
 use Rattle.theory_cli.proofs.parsing.model_stop.Goals as goal
 
 pub returns-in_default : goal.returns-in_default

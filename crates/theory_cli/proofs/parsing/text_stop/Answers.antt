@@ -1,5 +1,5 @@
 use Rattle.theory_text.specs.Answers.{fault_of}
-use Rattle.theory_cli.proofs.RefusalLemmas.{refused_text}
+use Rattle.theory_cli.proofs.TextRefusalLemmas.{refused_text}
 use Rattle.theory_cli.proofs.parsing.text_stop.Goals as goal
 
 pub returns-in_default : goal.returns-in_default

@@ -1,26 +1,25 @@
-use Rattle.std.proofs.Common.{◌≡◌, ◌<◌, length, get_or, List, ◌∙◌, ap, subst}
+use Rattle.std.proofs.Common.{◌≡◌, ◌<◌, length, get_or, List, ◌∙◌, subst}
 use Rattle.theory_syntax.specs.declared.text.Numbered.{Numbered}
 use Rattle.theory_decision.specs.Engine.{engine}
-use Rattle.theory_cli.specs.Plain.{replies_of}
 use Rattle.theory_cli.proofs.SessionLemmas.{passed_over, asks_none, answered_claim, is_own, halted}
 use Rattle.theory_cli.proofs.session.reply_to_check.Goals as goal
-use Rattle.theory_cli.proofs.session.reply_to_check.Goals.{in-Claim+in_default-tell_answer, in_default-line}
+use Rattle.theory_cli.proofs.session.reply_to_check.Goals.{in-Claim+in_default-tell_reply, in_default-line}
 
-pub tell_answer-requires : goal.tell_answer-requires
-tell_answer-requires g c =
+pub tell_reply-requires : goal.tell_reply-requires
+tell_reply-requires g c =
     let same = c.deref-numbered-items.ensures.value ∙ c.text_of.ensures.lines in
     let within = subst (λ (ls : List Numbered). c.loop-numbered.numbered-index < length ls) same c.loop-numbered-test.true in
     let is = subst (λ (ls : List Numbered). c.numbered-item.result ≡ get_or ls c.loop-numbered.numbered-index c.numbered-item.result) same c.numbered-item.is in
-    is_own engine c.args.model.now c.args.kind c.loop-numbered.numbered-index c.numbered-item.result within is c.in-Claim.label c.in-Claim.field-1
+    is_own engine c.args.model.now c.args.on.now c.args.policy.now.kind c.loop-numbered.numbered-index c.numbered-item.result within is c.in-Claim.label c.in-Claim.field-1
     c.in-Claim.field-2 c.in-Claim.is
 
-pub returns-in-Err-tell_answer : goal.returns-in-Err-tell_answer
-returns-in-Err-tell_answer g c =
+pub returns-in-Err-tell_reply : goal.returns-in-Err-tell_reply
+returns-in-Err-tell_reply g c =
     let same = c.deref-numbered-items.ensures.value ∙ c.text_of.ensures.lines in
     let within = subst (λ (ls : List Numbered). c.loop-numbered.numbered-index < length ls) same c.loop-numbered-test.true in
     let is = subst (λ (ls : List Numbered). c.numbered-item.result ≡ get_or ls c.loop-numbered.numbered-index c.numbered-item.result) same c.numbered-item.is in
-    halted engine c.args.model.now c.args.kind c.loop-numbered.numbered-index c.numbered-item.result within is c.in-Claim.label c.in-Claim.field-1
-    c.in-Claim.field-2 c.in-Claim.is c.in-Err-tell_answer.halt _ _ _ _ _ c.in-Err-tell_answer.ensures c.loop-numbered.invariant
+    halted engine c.args.model.now c.args.on.now c.args.policy.now.kind c.loop-numbered.numbered-index c.numbered-item.result within is c.in-Claim.label c.in-Claim.field-1
+    c.in-Claim.field-2 c.in-Claim.is c.in-Err-tell_reply.halt _ _ _ _ _ c.in-Err-tell_reply.ensures c.loop-numbered.invariant
 
 pub loop-numbered-preserved : goal.loop-numbered-preserved
 loop-numbered-preserved g c =
@@ -28,11 +27,11 @@ loop-numbered-preserved g c =
     let within = subst (λ (ls : List Numbered). c.loop-numbered.numbered-index < length ls) same c.loop-numbered-test.true in
     let is = subst (λ (ls : List Numbered). c.numbered-item.result ≡ get_or ls c.loop-numbered.numbered-index c.numbered-item.result) same c.numbered-item.is in
     elim c.match-numbered.branch [
-      | in-Claim+in_default-tell_answer w ↦
-          rw (w.out-is, w.replies-is) (answered_claim engine c.args.model.now c.args.kind c.loop-numbered.numbered-index c.numbered-item.result within is
-          w.in-Claim.label w.in-Claim.field-1 w.in-Claim.field-2 w.in-Claim.is _ _ _ _ _ w.in_default-tell_answer.ensures
+      | in-Claim+in_default-tell_reply w ↦
+          rw (w.out-is, w.replies-is) (answered_claim engine c.args.model.now c.args.on.now c.args.policy.now.kind c.loop-numbered.numbered-index c.numbered-item.result within is
+          w.in-Claim.label w.in-Claim.field-1 w.in-Claim.field-2 w.in-Claim.is _ _ _ _ _ w.in_default-tell_reply.ensures
           c.loop-numbered.invariant)
       | in_default-line w ↦
-          rw (w.out-is, w.replies-is) (passed_over engine c.args.model.now c.args.kind c.loop-numbered.numbered-index c.numbered-item.result within is _ _ _
+          rw (w.out-is, w.replies-is) (passed_over engine c.args.model.now c.args.on.now c.args.policy.now.kind c.loop-numbered.numbered-index c.numbered-item.result within is _ _ _
           (asks_none c.numbered-item.result.line w.in_default-line.not-Claim) c.loop-numbered.invariant)
     ]

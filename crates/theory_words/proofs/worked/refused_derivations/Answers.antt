@@ -15,6 +15,10 @@ pub returns-clause-order : goal.returns-clause-order
 unfolding clap_on_literals
 returns-clause-order c = none (codes "derive" ∷ codes "a" ∷ codes "--order" ∷ codes "unit" ∷ []) refl
 
+pub returns-clause-on : goal.returns-clause-on
+unfolding clap_on_literals
+returns-clause-on c = none (codes "derive" ∷ codes "a" ∷ codes "--on" ∷ codes "x" ∷ []) refl
+
 pub returns-clause-help : goal.returns-clause-help
 unfolding clap_on_literals
 returns-clause-help c = none (codes "derive" ∷ codes "--help" ∷ []) refl
