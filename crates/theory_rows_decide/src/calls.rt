@@ -19,6 +19,7 @@ pub fn answer(
     Some(match call {
         "halves" => halves::by_orders(alloc, policies, given),
         "search" => searches::searched(alloc, policies, first, second),
+        "leaves" => searches::leaves_told(alloc, policies, first, second, field(given, 2)),
         "simplify_signed" => searches::simplified(alloc, first),
         "candidates" => choices::candidates_told(alloc, first),
         "place" => choices::placed(alloc, policies, first, second),

@@ -97,7 +97,7 @@ fn add_stream(text: &mut Bytes, name: &[u8], held: &[u8]) -> Result<(), RowFault
 fn status_name(status: Status) -> &'static str {
     match status {
         Status::Finished => "finished",
-        Status::Undecided => "undecided",
+        Status::Unsettled => "unsettled",
         Status::Refused => "refused",
         Status::NoCommand => "no command",
         Status::Unread => "unread",

@@ -1,7 +1,8 @@
 //! Tests of the engine: sentences made by a fixed rule, against a plain program that tries the
-//! points of a grid; calls that no row of `theory_rows` makes; and what follows want of memory.
+//! points of a grid; conditions on names, against halves at values; calls that no row of `theory_rows` makes; and what follows want of memory.
 #![tactic(auto)]
 
+mod among;
 #[cfg(test)]
 mod asking;
 #[cfg(test)]
@@ -19,8 +20,12 @@ mod memory;
 #[cfg(test)]
 mod places;
 #[cfg(test)]
+mod regions;
+#[cfg(test)]
 mod source;
 #[cfg(test)]
 mod sums;
 #[cfg(test)]
 mod written;
+
+pub use among::are_among;

@@ -139,6 +139,18 @@ pub fn names(alloc: Global) -> Result<Names, NoMemory>
     Ok(names)
 }
 
+/// The first name, or the first two.
+pub fn first_names(alloc: Global, both: bool) -> Result<Names, NoMemory>
+    ensures { IfOk result (λ ns. AreDistinct ns) }
+{
+    let mut names = Names::new(alloc);
+    names.push(Name::from_slice(alloc, b"x")?)?;
+    if both {
+        names.push(Name::from_slice(alloc, b"y")?)?;
+    }
+    Ok(names)
+}
+
 /// The sentence of conjuncts.
 pub fn sentence(alloc: Global, plain: &Plain) -> Result<Sentence, NoMemory>
     ensures few { IfOk result (λ s. length s.symbols ≤ 32) }
