@@ -1,12 +1,12 @@
 -- A condition that is put together of a lowered sentence and its leaves.
-use Rattle.std.proofs.Common.{◌≡◌, zero, suc, ◌≤◌, length, List, [], ◌∷◌, map, true, false, refl, inl, inr, subst, arith}
+use Rattle.std.proofs.Common.{◌≡◌, zero, suc, ◌≤◌, length, List, [], ◌∷◌, true, false, refl, inl, inr, subst, arith}
 use Rattle.std.specs.Prelude.{IfOk, Result, Ok, Err, if◌then◌else◌}
 use Rattle.std.specs.Str.{bytes_eq}
 use Rattle.theory_meaning.specs.declared.words.Kind.{Kind}
+use Rattle.theory_meaning.specs.Deciding.{IsLicensedRegion}
 use Rattle.theory_meaning.specs.Half as half
 use Rattle.theory_meaning.specs.Point.{Name, AreDistinct}
-use Rattle.theory_meaning.specs.Region.{Region, unknown, AreAmong, IsRightRegion}
-use Rattle.theory_meaning.specs.Deciding.{IsRegion}
+use Rattle.theory_meaning.specs.Region.{unknown, AreAmong, IsRightRegion}
 use Rattle.theory_meaning.specs.Tree.{Claim}
 use Rattle.theory_formula.specs.Formula.{Formula}
 use Rattle.theory_lowering.specs.NormalForm.{IsLarge}
@@ -17,7 +17,7 @@ use Rattle.theory_decision.specs.Answers.{lowered, refused, region_by, symbols_o
 use Rattle.theory_decision.specs.Choice.{Symbols}
 use Rattle.theory_decision.specs.Outcomes.{Leaves, all_of, true_everywhere, failed_before, AreLeaves}
 use Rattle.theory_decision.specs.Engine.{engine}
-use Rattle.theory_decision.proofs.EngineAnswers.{engine_may_answer_region}
+use Rattle.theory_decision.proofs.EngineAnswers.{licensed_region}
 use Rattle.theory_decision.proofs.RegionTruth.{condition_named, written_region_is_right}
 use Rattle.theory_decision.proofs.StuckAtoms.{leaves_free}
 use Rattle.theory_lower.specs.declared.fault.LowerFault.{LowerFault}
@@ -77,13 +77,14 @@ module _ (kind : Kind) (ns : List Name) (cs : List Claim) (on : List Name) (few 
     region_of_wide_fault is =
         let w = subst (λ (f : LowerFault). LowersWhere {T = T} (IsLarge cs) (AreWide ns cs) (Err f)) is told in region_of_wide w.0 w.1
 
-  -- what a written condition says; an engine may answer it
+  -- what a written condition says
   pub says : (answer : Result source.Region NoMemory) → IfOk answer (λ r. IsWrittenRegion kind ns cs on (region_of r))
       → IfOk answer (λ r. IsRightRegion cs on (region_of r))
   says (Ok r) w = written_region_is_right kind ns cs on (region_of r) few listed distinct chosen w
   says (Err e) w = tt
 
-  pub may_answer : (answer : Result source.Region NoMemory) → IfOk answer (λ r. IsWrittenRegion kind ns cs on (region_of r))
-      → IfOk answer (λ r. IsRegion engine ns cs on kind (region_of r))
-  may_answer (Ok r) w = engine_may_answer_region kind ns cs on (region_of r) few listed distinct chosen w
-  may_answer (Err e) w = tt
+  -- and when it stays unknown
+  pub may_not_know : (answer : Result source.Region NoMemory) → IfOk answer (λ r. IsWrittenRegion kind ns cs on (region_of r))
+      → IfOk answer (λ r. IsLicensedRegion engine ns cs on kind (region_of r))
+  may_not_know (Ok r) w = licensed_region kind ns cs on (region_of r) w
+  may_not_know (Err e) w = tt

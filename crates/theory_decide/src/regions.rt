@@ -1,4 +1,5 @@
 ghost use Rattle.std.specs.Prelude.{◌≡◌, ◌≤◌, length, map, IfOk};
+ghost use Rattle.theory_meaning.specs.Deciding.{IsLicensedRegion};
 ghost use Rattle.theory_meaning.specs.Point.{AreDistinct};
 ghost use Rattle.theory_meaning.specs.Region.{AreAmong, IsRightRegion};
 ghost use Rattle.theory_formula.specs.Formula.{EachAtom, disjunction, formulas_from, negated};
@@ -7,6 +8,7 @@ ghost use Rattle.theory_lowering.specs.Lowered.{place_of, IsLowered};
 ghost use Rattle.theory_lowering.specs.LoweringLimits.{AreListed};
 ghost use Rattle.theory_signed.specs.ByKind.{simplified_for};
 ghost use Rattle.theory_decision.specs.Answers.{lowered, condition_of, region_by, symbols_of, IsRegionOf, IsWrittenRegion};
+ghost use Rattle.theory_decision.specs.Engine.{engine};
 ghost use Rattle.theory_syntax.specs.Plain.{claims_of};
 ghost use Rattle.theory_syntax.specs.Plain as tree;
 ghost use Rattle.theory_signs.specs.Plain.{formula_of};
@@ -40,9 +42,11 @@ pub fn written_region(
         (claims_of sentence.now.conjuncts.items) on.now (region_of r)) }
 
     // A known condition holds these names alone, and is true exactly where no point with these
-    // values meets the sentence.
+    // values meets the sentence. It stays unknown only where an engine may not know it.
     ensures right { IfOk result (λ r.
         IsRightRegion (claims_of sentence.now.conjuncts.items) on.now (region_of r)) }
+    ensures licensed { IfOk result (λ r. IsLicensedRegion engine sentence.now.symbols
+        (claims_of sentence.now.conjuncts.items) on.now policy.now.kind (region_of r)) }
 {
     region_of_sentence(alloc, policy, sentence, on)
 }
@@ -136,8 +140,8 @@ fn condition(
     symbols: &Names,
     leaves: Formulas,
 ) -> Result<Claim, NoMemory>
-    requires { EachAtom (IsNamed symbols.now)
-        (negated (simplified_for kind (disjunction (formulas_from (map formula_of leaves.items))))) }
+    requires { EachAtom (IsNamed symbols.now) (negated
+        (simplified_for kind (disjunction (formulas_from (map formula_of leaves.items))))) }
     ensures { IfOk result (λ c.
         tree.claim_of c ≡ condition_of kind symbols.now (map formula_of leaves.items)) }
 {

@@ -55,7 +55,7 @@ module _ (kind : Kind) (ns : List Name) (cs : List Claim) (on_names : List Name)
   unknown_of (refused d) c k b = (refused d, k, cc)
   unknown_of (lowered F) c k b = unknown_by F b.0 c k b.1 b.2
 
-  licensed_region : (r : Region) → IsWrittenRegion kind ns cs on_names r → IsLicensedRegion engine ns cs on_names kind r
+  pub licensed_region : (r : Region) → IsWrittenRegion kind ns cs on_names r → IsLicensedRegion engine ns cs on_names kind r
   licensed_region (known C) w = tt
   licensed_region (unknown c) w = unknown_of w.0 c w.1 w.2
 

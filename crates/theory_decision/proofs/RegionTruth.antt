@@ -103,7 +103,11 @@ module _ (kind : Kind) (ns : List Name) (cs : List Claim) (on_names : List Name)
   met_for F p w m = (values_of ns m.0, symbols_agree on_names p m.0 chosen (agree_at on_names p m.0 m.1), lowered_truth ns cs F m.0 few listed w ∙ m.2)
 
   for_met : (F : Formula) (p : Point) → IsLowered ns cs F → IsTrueFor (places on_names) (values_of ns p) F → IsMetWith p
-  for_met F p w t = (named ns t.0, agree_on on_names p (named ns t.0) (names_agree on_names p t.0 chosen t.1), meets_named kind ns cs few listed distinct F t.0 w t.2)
+  for_met F p w t = (
+    named ns t.0,
+    agree_on on_names p (named ns t.0) (names_agree on_names p t.0 chosen t.1),
+    meets_named kind ns cs few listed distinct F t.0 w t.2,
+  )
 
   pub condition_named : (F : Formula) (leaves : List Formula) → IsLowered ns cs F → AreLeaves (places on_names) kind F (all_of leaves)
       → EachAtom (IsNamed ns) (negated (simplified_for kind (disjunction (formulas_from leaves))))

@@ -16,10 +16,12 @@ use Rattle.theory_search.proofs.visit.+visit.Goals as goal
 
 pub branch_node-requires-clause-linear : goal.branch_node-requires-clause-linear
 branch_node-requires-clause-linear g _ c =
-    let entered : IsEntered c.args.keep.now c.args.policy.now.kind c.args.depth (node_of c.args.node.now) (progress_of c.args.progress.now) (progress_of c.enter.new.progress)
-    (Below c.in-Below.x c.in-Below.simple) =
-    subst (IsEntered c.args.keep.now c.args.policy.now.kind c.args.depth (node_of c.args.node.now) (progress_of c.args.progress.now) (progress_of c.enter.new.progress))
-    c.in-Below.is c.in_ok-enter.ensures
+    let k = c.args.policy.now.kind in
+    let N = node_of c.args.node.now in
+    let s = progress_of c.args.progress.now in
+    let t = progress_of c.enter.new.progress in
+    let entered : IsEntered c.args.keep.now k c.args.depth N s t (Below c.in-Below.x c.in-Below.simple) =
+    subst (IsEntered c.args.keep.now k c.args.depth N s t) c.in-Below.is c.in_ok-enter.ensures
     in
     subst (λ F. IsLinear c.in-Below.x (formula_of F)) (sym c.loop-k.invariant.0) entered.0.linear
 
@@ -51,15 +53,16 @@ returns-in-Hit-2 g _ c =
     in
     let went : Visit c.args.keep.now k (c.args.depth + 1) (node_of c.in_ok-branch-in-Below.branch) (progress_of c.loop-k.progress)
     (run_of (Hit c.in-Hit-2.path) c.visit.new.progress) =
-    subst (λ r. Visit c.args.keep.now k (c.args.depth + 1) (node_of c.in_ok-branch-in-Below.branch) (progress_of c.loop-k.progress) (run_of r c.visit.new.progress))
+    subst (λ r. Visit c.args.keep.now k (c.args.depth + 1) (node_of c.in_ok-branch-in-Below.branch) (progress_of c.loop-k.progress)
+    (run_of r c.visit.new.progress))
     c.in-Hit-2.is c.in_ok-visit-in-Below.ensures
     in
     let path = path_of (reverse c.in-Hit-2.path.items) in
     returned c.args.keep.now k c.args.depth N s (below c.in-Below.x S (hit path)) c.hit_below.result _
     (subst (λ F. IfOk c.hit_below.result (λ r. (u : Progress) → run_of r u ≡ below c.in-Below.x (formula_of F) (hit path)))
     c.loop-k.invariant.0 c.hit_below.ensures)
-    (hit_here c.args.keep.now k c.args.depth N s t c.in-Below.x S c.loop-k.k (progress_of c.loop-k.progress) (node_of c.in_ok-branch-in-Below.branch) path entered.1
-    c.loop-k.invariant.2 node went)
+    (hit_here c.args.keep.now k c.args.depth N s t c.in-Below.x S c.loop-k.k (progress_of c.loop-k.progress)
+    (node_of c.in_ok-branch-in-Below.branch) path entered.1 c.loop-k.invariant.2 node went)
 
 pub returns-in-Over-2 : goal.returns-in-Over-2
 returns-in-Over-2 g _ c =
@@ -75,8 +78,10 @@ returns-in-Over-2 g _ c =
     subst (λ F. IsNode c.in-Below.x (formula_of F) c.loop-k.k (node_of c.in_ok-branch-in-Below.branch)) c.loop-k.invariant.0
     c.in_ok-branch-in-Below.ensures
     in
-    let went : Visit c.args.keep.now k (c.args.depth + 1) (node_of c.in_ok-branch-in-Below.branch) (progress_of c.loop-k.progress) (run_of (Over c.in-Over-2.failure) c.visit.new.progress) =
-    subst (λ r. Visit c.args.keep.now k (c.args.depth + 1) (node_of c.in_ok-branch-in-Below.branch) (progress_of c.loop-k.progress) (run_of r c.visit.new.progress))
+    let went : Visit c.args.keep.now k (c.args.depth + 1) (node_of c.in_ok-branch-in-Below.branch) (progress_of c.loop-k.progress)
+    (run_of (Over c.in-Over-2.failure) c.visit.new.progress) =
+    subst (λ r. Visit c.args.keep.now k (c.args.depth + 1) (node_of c.in_ok-branch-in-Below.branch) (progress_of c.loop-k.progress)
+    (run_of r c.visit.new.progress))
     c.in-Over-2.is c.in_ok-visit-in-Below.ensures
     in
     over_here c.args.keep.now k c.args.depth N s t c.in-Below.x S c.loop-k.k (progress_of c.loop-k.progress) (node_of c.in_ok-branch-in-Below.branch)
@@ -96,8 +101,10 @@ loop-k-preserved g _ c =
     subst (λ F. IsNode c.in-Below.x (formula_of F) c.loop-k.k (node_of c.in_ok-branch-in-Below.branch)) c.loop-k.invariant.0
     c.in_ok-branch-in-Below.ensures
     in
-    let went : Visit c.args.keep.now k (c.args.depth + 1) (node_of c.in_ok-branch-in-Below.branch) (progress_of c.loop-k.progress) (run_of GoesOn c.visit.new.progress) =
-    subst (λ r. Visit c.args.keep.now k (c.args.depth + 1) (node_of c.in_ok-branch-in-Below.branch) (progress_of c.loop-k.progress) (run_of r c.visit.new.progress))
+    let went : Visit c.args.keep.now k (c.args.depth + 1) (node_of c.in_ok-branch-in-Below.branch) (progress_of c.loop-k.progress)
+    (run_of GoesOn c.visit.new.progress) =
+    subst (λ r. Visit c.args.keep.now k (c.args.depth + 1) (node_of c.in_ok-branch-in-Below.branch) (progress_of c.loop-k.progress)
+    (run_of r c.visit.new.progress))
     c.in-GoesOn-2.is c.in_ok-visit-in-Below.ensures
     in (
       c.loop-k.invariant.0,

@@ -27,8 +27,8 @@ returns-in-Fails g c =
 pub returns-in-Eliminates : goal.returns-in-Eliminates
 returns-in-Eliminates g c = (
   subst (IsReady c.args.depth) c.in-Eliminates.is c.in_ok-finding.ensures.ready,
-  branched_here c.args.keep.now c.args.policy.now.kind c.args.depth (node_of c.args.node.now) (progress_of c.args.progress.now) (progress_of c.count-in-Eliminates.new.self)
-      c.in-Eliminates.x (formula_of c.in-Eliminates.simple) c.if-progress-ge20000.false
+  branched_here c.args.keep.now c.args.policy.now.kind c.args.depth (node_of c.args.node.now) (progress_of c.args.progress.now)
+      (progress_of c.count-in-Eliminates.new.self) c.in-Eliminates.x (formula_of c.in-Eliminates.simple) c.if-progress-ge20000.false
       (sym c.in_ok-finding.ensures.written ∙ ap finding_of c.in-Eliminates.is) c.count-in-Eliminates.ensures,
 )
 
