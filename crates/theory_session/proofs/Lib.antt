@@ -1,3 +1,17 @@
 pub mod NameLaws
 pub mod ConditionLaws
 pub mod TaxCondition
+pub mod JudgedLaws
+pub mod AcceptedLaws
+pub mod LookupLaws
+pub mod StepLaws
+pub mod RepeatLaws
+pub mod OneStepLaws
+pub mod Guessing
+pub mod Scanning
+pub mod Spelling
+pub mod ScriptLaws
+pub mod WorkedLaws
+pub mod RowLaws
+pub mod CheckLaws
+pub mod SlowLemmas

@@ -25,6 +25,10 @@ pub record Answer : Type 0 where
   pub verdict : Verdict
   pub region : Option Region
 
--- why a question is refused: the place, from 1, of a name that is no listed symbol of the claim
+-- why a question is refused, in the order of the checks: the model has no such version, but a last one of this number;
+-- the name at this place, from 1, is no listed symbol of the claim
 pub data AskFault : Type 0 where
+  unknown_model : AskFault
+  unknown_version : ℕ → AskFault
+  unknown_claim : AskFault
   unknown_name : ℕ → AskFault

@@ -1,5 +1,5 @@
 -- The printed form of replies. docs/PROTOCOL.md has it in words.
-use Rattle.std.specs.Prelude.{ℕ, List, [], ◌∷◌, ◌++◌, Option, Some, None, codes, decimal}
+use Rattle.std.specs.Prelude.{ℕ, List, [], ◌∷◌, ◌++◌, length, Option, Some, None, codes, decimal}
 use Rattle.theory_meaning.specs.declared.words.Rel.TheVariants.{Eq}
 use Rattle.theory_meaning.specs.declared.words.Verdict.{Verdict}
 use Rattle.theory_meaning.specs.Point.{Name, Point, value_at}
@@ -9,8 +9,9 @@ use Rattle.theory_meaning.specs.Region.{Region, known, unknown}
 use Rattle.theory_meaning.specs.Tree.{Claim}
 use Rattle.theory_grammar.specs.Printed.{claim_text, sides_text}
 use Rattle.theory_derivative.specs.Differentiated.{Differentiated}
-use Rattle.theory_session.specs.Ask.{Answer, AskFault, unknown_name}
-use Rattle.theory_session.specs.Run.{Refusal, of_question, Reply, created, answered, refused, derived}
+use Rattle.theory_session.specs.Ask.{Answer}
+pub use Rattle.theory_session.specs.FaultText.{fault_text, refusal_text}
+use Rattle.theory_session.specs.Run.{Refusal, Reply, created, edited, answered, shown, listed, refused, derived}
 
 -- a name with its value
 abbrev pub entry_text : Point → Name → List ℕ
@@ -94,13 +95,27 @@ abbrev pub answer_text : Answer → List ℕ
 answer_text a =
     question_text a.model a.version a.claim a.verdict ++ halves_text a.symbols a.example a.counter ++ region_line a.region
 
--- why a question is refused
-abbrev pub fault_text : AskFault → List ℕ
-fault_text (unknown_name place) = codes "UnknownName " ++ decimal place
+-- the line of an edited model
+abbrev pub edited_text : Name → ℕ → List ℕ
+edited_text model version = codes "edited " ++ model ++ codes " " ++ decimal version ++ line_end
 
--- why a request is refused
-abbrev pub refusal_text : Refusal → List ℕ
-refusal_text (of_question fault) = fault_text fault
+-- the lines of a version that is shown: its printed text between two lines
+abbrev pub shown_text : Name → ℕ → List ℕ → List ℕ
+shown_text model version text =
+    codes "text of " ++ model ++ codes " " ++ decimal version ++ line_end ++ text ++ codes "end" ++ line_end
+
+-- the line of a model with its last version
+abbrev pub model_text : Name × ℕ → List ℕ
+model_text m = codes "  " ++ m.0 ++ codes " " ++ decimal m.1 ++ line_end
+
+-- those of models
+abbrev pub models_text : List (Name × ℕ) → List ℕ
+models_text [] = []
+models_text (m ∷ ms) = model_text m ++ models_text ms
+
+-- the lines of the models that are listed, their number first
+abbrev pub listed_text : List (Name × ℕ) → List ℕ
+listed_text ms = codes "models " ++ decimal (length ms) ++ line_end ++ models_text ms
 
 -- the line of a refusal
 abbrev pub refused_text : Refusal → List ℕ
@@ -118,7 +133,10 @@ derived_text (d ∷ ds) = differentiated_text d ++ derived_text ds
 -- the printed form of a reply
 abbrev pub reply_text : Reply → List ℕ
 reply_text (created model version) = created_text model version
+reply_text (edited model version) = edited_text model version
 reply_text (answered a) = answer_text a
+reply_text (shown model version text) = shown_text model version text
+reply_text (listed ms) = listed_text ms
 reply_text (refused refusal) = refused_text refusal
 reply_text (derived equations) = derived_text equations
 

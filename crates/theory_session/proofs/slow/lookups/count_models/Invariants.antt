@@ -1,0 +1,10 @@
+use Rattle.std.proofs.Common.{◌≡◌, ◌+◌, ◌≤◌, length, drop}
+use Rattle.theory_session.specs.Lookup as lookup
+use Rattle.theory_session.specs.SlowDesk.{entries_of}
+use Rattle.theory_session.proofs.slow.lookups.count_models.Given as goal
+
+abbrev pub invariant-loop-version : goal.invariant-loop-version
+invariant-loop-version g l =
+    (l.count ≤ l.version-index)
+    × (l.count + length (lookup.models_in (entries_of g.T.Text.lines (drop l.version-index l.versions)))
+    ≡ length (lookup.models_in (entries_of g.T.Text.lines l.versions)))
