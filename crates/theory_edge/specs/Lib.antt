@@ -5,3 +5,7 @@ pub mod Memory
 pub mod Real
 pub mod Sure
 pub mod Message
+pub mod Rows
+pub mod Keepers
+pub mod Stops
+pub mod MemKeepers
