@@ -1,7 +1,7 @@
 //! Which call a row's first word names.
 
 use crate::escapes::bytes_of;
-use crate::{ends, messages, numbers, runs, slow};
+use crate::{ends, keepers, messages, numbers, runs, slow};
 use std::alloc::Global;
 use theory_points::Bytes;
 use theory_rows_method::calls::field;
@@ -24,6 +24,9 @@ pub fn answer(
         "reads" => ends::reads(alloc, first, second),
         "writes" => ends::writes(alloc, first, second, third),
         "sure" => ends::sure(alloc, first, second),
+        "keeper" => keepers::keeps(alloc, first, second, third),
+        "sure_keeper" => keepers::keeps_surely(alloc, first),
+        "fits" => keepers::fits(alloc, first, second, third),
         "run" => run(alloc, policies, given),
         "verdict" => runs::verdict(alloc, first, second),
         "message" => messages::message(alloc, first),

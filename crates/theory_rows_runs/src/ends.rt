@@ -87,7 +87,13 @@ fn mark(answer: Result<(), Failed>) -> &'static [u8] {
     }
 }
 
-fn add_counted(alloc: Global, text: &mut Bytes, piece: &[u8], faults: u64) -> Result<(), RowFault> {
+/// Adds a piece with a count of faults behind it.
+pub fn add_counted(
+    alloc: Global,
+    text: &mut Bytes,
+    piece: &[u8],
+    faults: u64,
+) -> Result<(), RowFault> {
     add_apart(text, b"; ", piece)?;
     text.extend(b" ")?;
     add_whole(alloc, text, i128::from(faults))

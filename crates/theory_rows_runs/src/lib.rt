@@ -5,6 +5,7 @@
 pub mod calls;
 mod ends;
 pub mod escapes;
+mod keepers;
 mod messages;
 mod numbers;
 pub mod runs;
