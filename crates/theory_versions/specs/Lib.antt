@@ -1,0 +1,14 @@
+pub use Rattle.theory_session.specs.Steps
+pub use Rattle.theory_edge.specs.Stops
+pub mod Entries
+pub mod Replies
+pub mod Index
+pub mod Book
+pub mod Made
+pub mod Creating
+pub mod Editing
+pub mod Judging
+pub mod Ledger
+pub mod Kept
+pub mod Beginning
+pub mod Message
